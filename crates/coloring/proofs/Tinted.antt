@@ -1,0 +1,52 @@
+-- Which instructions are unsafe, and with which sets, does not depend on the objects' colors.
+use Prim.Native.Nat.{ℕ, zero, suc, _+_}
+use mathlib.Core.Path.{_≡_, refl, sym, _∙_, ap}
+use mathlib.Core.List.{List, [], _∷_, _++_}
+use mathlib.Core.Bool.{Bool, true, false}
+use lib.ListN.{length, getD}
+use lib.Dec.{leb}
+use Rattle.files.specs.declared.Object.{Object}
+use Rattle.files.specs.declared.Instr.{Instr}
+use Rattle.files.specs.Program.{Program}
+use Rattle.files.specs.View.{Aim, inGlobal, atTemp, View, act, jump, jumpIf, store, check, view, bytes, extent}
+use Rattle.coloring.specs.Unsafe.{sizeOf, safeAim, setOf, unsafeSet, setsIn, unsafeSets}
+use Rattle.coloring.specs.Colored.{tinted, withColors}
+
+pub tinted-length : (color : ℕ → ℕ) (from : ℕ) (os : List Object) → length (tinted color from os) ≡ length os
+unfolding tinted
+tinted-length color from [] = refl
+tinted-length color from (o ∷ os) = ap suc (tinted-length color (from + 1) os)
+
+pub tinted-size : (color : ℕ → ℕ) (from : ℕ) (os : List Object) (g : ℕ) → sizeOf (tinted color from os) g ≡ sizeOf os g
+unfolding tinted
+tinted-size color from [] g = refl
+tinted-size color from (o ∷ os) zero = refl
+tinted-size color from (o ∷ os) (suc g) = tinted-size color (from + 1) os g
+
+abbrev unless : (safe : Bool) → List ℕ → List (List ℕ)
+unless safe set = elim safe [ true ↦ [] | false ↦ set ∷ [] ]
+
+-- two programs with the same sets whose objects have the same sizes
+module _ (p q : Program) (sizes : (g : ℕ) → sizeOf (p .objects) g ≡ sizeOf (q .objects) g) (same : p .sets ≡ q .sets) where
+  pub safe-same : (aim : Aim) → safeAim p aim ≡ safeAim q aim
+  safe-same (inGlobal g k w) = ap (λ (n : ℕ). leb (k + bytes w) (extent n)) (sizes g)
+  safe-same (atTemp a w) = refl
+
+  pub set-same : (aim : Aim) (s : ℕ) → setOf p aim s ≡ setOf q aim s
+  set-same (inGlobal g k w) s = refl
+  set-same (atTemp a w) s = ap (λ (ss : List (List ℕ)). getD ss s []) same
+
+  unsafe-same : (v : View) → unsafeSet p v ≡ unsafeSet q v
+  unsafe-same (act x) = refl
+  unsafe-same (jump t) = refl
+  unsafe-same (jumpIf a t) = refl
+  unsafe-same (store aim b s) = ap (λ (t : Bool). unless t (setOf p aim s)) (safe-same aim) ∙ ap (unless (safeAim q aim)) (set-same aim s)
+  unsafe-same (check aim c) = refl
+
+  pub sets-in-same : (code : List Instr) → setsIn p code ≡ setsIn q code
+  unfolding setsIn
+  sets-in-same [] = refl
+  sets-in-same (i ∷ code) = rw (unsafe-same (view i), sets-in-same code)
+
+pub uncolored-sets : (color : ℕ → ℕ) (p : Program) → unsafeSets (withColors color p) ≡ unsafeSets p
+uncolored-sets color p = sets-in-same (withColors color p) p (tinted-size color 0 (p .objects)) refl (p .code)

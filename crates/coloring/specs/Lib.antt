@@ -1,0 +1,4 @@
+pub mod Unsafe
+pub mod Class
+pub mod Color
+pub mod Colored

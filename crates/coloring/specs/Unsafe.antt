@@ -1,0 +1,40 @@
+-- 01, "Safe stores, classes, colors": which instructions are unsafe, and with which set.
+use Prim.Native.Nat.{ℕ, zero, suc, _+_}
+use mathlib.Core.List.{List, [], _∷_, _++_}
+use mathlib.Core.Bool.{Bool, true, false, not}
+use lib.ListN.{length, getD}
+use lib.Dec.{ltb, leb, eqb}
+use Rattle.files.specs.declared.Object.{Object}
+use Rattle.files.specs.declared.Instr.{Instr}
+use Rattle.files.specs.Program.{Program}
+use Rattle.files.specs.View.{Aim, inGlobal, atTemp, View, act, jump, jumpIf, store, check, view, bytes, extent}
+
+abbrev pub sizeOf : List Object → (g : ℕ) → ℕ
+sizeOf objects g = getD objects g (record { kind = 0; size = 0; color = 0 }) .size
+
+-- "A PUT is safe when its last byte lies inside the global's size rounded up to eight. Every other
+-- PUT is unsafe .., and every WRITE is unsafe"
+abbrev pub safeAim : Program → Aim → Bool
+safeAim p (inGlobal g k w) = leb (k + bytes w) (extent (sizeOf (p .objects) g))
+safeAim p (atTemp a w) = false
+
+-- ".. with the set {g}, and every WRITE is unsafe with its set"
+abbrev pub setOf : Program → Aim → (set : ℕ) → List ℕ
+setOf p (inGlobal g k w) s = g ∷ []
+setOf p (atTemp a w) s = getD (p .sets) s []
+
+-- the set of an instruction that is unsafe, as the one element of a list; none of any other
+abbrev pub unsafeSet : Program → View → List (List ℕ)
+unsafeSet p (act x) = []
+unsafeSet p (jump t) = []
+unsafeSet p (jumpIf a t) = []
+unsafeSet p (store aim b s) = elim (safeAim p aim) [ true ↦ [] | false ↦ setOf p aim s ∷ [] ]
+unsafeSet p (check aim c) = []
+
+unfoldable pub setsIn : Program → List Instr → List (List ℕ)
+setsIn p [] = []
+setsIn p (i ∷ code) = unsafeSet p (view i) ++ setsIn p code
+
+-- the sets of the unsafe instructions, in order: "a set that no instruction names counts for nothing"
+abbrev pub unsafeSets : Program → List (List ℕ)
+unsafeSets p = setsIn p (p .code)

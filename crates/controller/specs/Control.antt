@@ -1,0 +1,58 @@
+-- What handing a routine to the controller answers: a refusal that changes nothing, or the outcome that
+-- the plain rule gives. No color and no version 2 stands here; what the table holds afterwards is said
+-- by TableAfter.
+use Prim.Native.Nat.{ℕ}
+use mathlib.Core.List.{List, _++_}
+use mathlib.Core.Bool.{Bool, true, false}
+use lib.ListN.{length, drop}
+use lib.Dec.{leb}
+use Rattle.files.specs.Program.{Program}
+use Rattle.files.specs.Reading.{Reading, whole, refusal, readFile}
+use Rattle.coloring.specs.Colored.{classCount}
+use Rattle.layout.specs.Layout.{fits}
+use Rattle.machine.specs.State.{Given}
+use Rattle.machine.specs.Runs.{Outcome}
+use Rattle.machine.specs.Running.{Lent, Answer, refuse, exactLengths}
+use Rattle.plain.specs.Live.{Live}
+use Rattle.plain.specs.Plain.{plainPieces, plainRun}
+use Rattle.controller.specs.TableAfter.{tableAfter}
+
+-- "8 | more than 254 classes", then "9 | globals end above 28,672"
+abbrev pub admitted : Reading → Reading
+admitted (whole p) =
+    elim (leb (classCount p) 254) [
+      | true ↦ elim (fits (plainPieces p)) [ true ↦ whole p | false ↦ Reading.refused (refusal 9 0) ]
+      | false ↦ Reading.refused (refusal 8 0)
+    ]
+admitted (Reading.refused q) = Reading.refused q
+
+abbrev pub givenFor : (input : List ℕ) (limit : ℕ) → Lent → Given
+givenFor input limit lent = record { input = input; room = length (lent .room); limit = limit }
+
+-- the outcome of the plain rule: its record, its numbers out, and all of its memory
+abbrev pub plainAnswer : (input : List ℕ) (limit : ℕ) → Lent → Program → Answer
+plainAnswer input limit lent p =
+    record {
+      run = plainRun p (givenFor input limit lent) .run;
+      lent =
+          record {
+            memory = plainRun p (givenFor input limit lent) .memory;
+            table = tableAfter p (givenFor input limit lent);
+            room =
+                plainRun p (givenFor input limit lent) .outs
+                ++ drop (length (plainRun p (givenFor input limit lent) .outs)) (lent .room);
+          };
+    }
+
+abbrev pub answerTo : (input : List ℕ) (limit : ℕ) → Lent → Reading → Answer
+answerTo input limit lent (whole p) = plainAnswer input limit lent p
+answerTo input limit lent (Reading.refused q) = refuse lent q
+
+-- "Order: 11 first (running only), then 1, then the file from left to right, then 8 and 9"; 10 cannot
+-- happen, since the controller brings its own room for the instrumented file
+unfoldable pub control : (file input : List ℕ) (limit : ℕ) → Lent → Answer
+control file input limit lent =
+    elim (exactLengths lent) [
+      | true ↦ answerTo input limit lent (admitted (readFile 1 file))
+      | false ↦ refuse lent (refusal 11 0)
+    ]

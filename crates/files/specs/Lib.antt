@@ -1,0 +1,6 @@
+pub mod Table
+pub mod Program
+pub mod Reading
+pub mod Writing
+pub mod Held
+pub mod View

@@ -1,0 +1,117 @@
+// Files: routines (version 1) and instrumented code (version 2), read from bytes and written to them.
+//
+// A file is numbers and nothing else. Reading gives the whole of what the file says, or the first
+// refusal from left to right.
+use numbers::Cursor;
+use numbers::Refusal;
+
+// What an operand of an instruction names, and so its range; `None` where there is no operand.
+pub enum Operand {
+    None,
+    Temporary,
+    Number,
+    Global,
+    Site,
+    Set,
+    Offset,
+    Target,
+    Color,
+}
+
+// The operands of an opcode, in their order in the file.
+pub struct Row {
+    pub first: Operand,
+    pub second: Operand,
+    pub third: Operand,
+}
+
+// An instruction with its operands as data. In version 2 a WRITE has no set: the field is 0.
+pub enum Instr {
+    End,
+    Set(u8, u32),
+    Place(u8, u16),
+    Add(u8, u8, u8),
+    Sub(u8, u8, u8),
+    Less(u8, u8, u8),
+    Load8(u8, u8),
+    Load32(u8, u8),
+    Put8(u16, u16, u8),
+    Put32(u16, u16, u8),
+    Write8(u8, u8, u16),
+    Write32(u8, u8, u16),
+    Jump(u16),
+    JumpIf(u8, u16),
+    Alloc(u8, u16, u8),
+    Free(u8),
+    In(u8),
+    Out(u8),
+    Check8(u8, u8),
+    Check32(u8, u8),
+    CheckPut8(u16, u16, u8),
+    CheckPut32(u16, u16, u8),
+}
+
+// One instruction as an element of an array.
+pub struct Line {
+    pub instr: Instr,
+}
+
+// An object: kind 0 is a global with a size, kind 1 a heap site, whose size is 0 here. A file of
+// version 1 has no colors: the field is 0.
+pub struct Object {
+    pub kind: u8,
+    pub size: u16,
+    pub color: u8,
+}
+
+// What reading one object answers.
+pub enum ObjectRead {
+    Object(Object, Cursor),
+    Refused(Refusal),
+}
+
+// What reading one instruction answers.
+pub enum InstrRead {
+    Instr(Instr, Cursor),
+    Refused(Refusal),
+}
+
+// How reading a part of a file ended: where the next part starts, or with a refusal.
+pub enum Ended {
+    Next(Cursor),
+    Refused(Refusal),
+}
+
+// How reading a whole file ended.
+pub enum Outcome {
+    Whole,
+    Refused(Refusal),
+}
+
+// A file as it is held: of each array the first so many elements count, and the others are blank.
+// Of a refused file everything is blank but the refusal.
+pub struct Loaded {
+    pub outcome: Outcome,
+    // The objects: how many, and the fields of each.
+    pub objects: usize,
+    pub kinds: [u8; 400],
+    pub sizes: [u16; 400],
+    pub colors: [u8; 400],
+    // The sets: how many, where each ends among the members, and all members one set after the other.
+    pub sets: usize,
+    pub ends: [u16; 400],
+    pub members: [u16; 16384],
+    // The instructions: how many, and each.
+    pub lines: usize,
+    pub code: [Line; 2000],
+}
+
+// What writing a program answers.
+pub enum Written {
+    // The length of the file.
+    Upto(usize),
+    // The room is too small, and no byte of it was changed.
+    TooSmall,
+    // No file says what is held, and no byte of the room was changed.
+    NoProgram,
+}

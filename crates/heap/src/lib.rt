@@ -1,0 +1,1 @@
+// Memory, the color table, and the heap.

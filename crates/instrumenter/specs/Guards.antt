@@ -1,0 +1,63 @@
+-- When a version 2 program guards a version 1 program, for any choice of color numbers that keeps the
+-- classes apart; and what the instrumenter answers.
+use Prim.Native.Nat.{ℕ, _≤_, _<_}
+use mathlib.Core.Path.{_≡_}
+use mathlib.Core.List.{List, [], _++_}
+use mathlib.Core.Bool.{Bool, true, false}
+use lib.ListN.{length, drop}
+use lib.Dec.{leb}
+use Rattle.numbers.specs.declared.Refusal.{Refusal}
+use Rattle.files.specs.Program.{Program}
+use Rattle.files.specs.Reading.{Reading, whole, refusal, readFile}
+use Rattle.files.specs.Writing.{spellFile}
+use Rattle.coloring.specs.Unsafe.{unsafeSets}
+use Rattle.coloring.specs.Class.{unsafeObject, sameClass}
+use Rattle.coloring.specs.Colored.{withColors, colorIn, colored}
+use Rattle.layout.specs.Layout.{piecesOf, fits}
+use Rattle.instrumenter.specs.Instrumented.{instrumented}
+
+-- colors that give 0 exactly to the safe objects, and two unsafe objects one number exactly when they
+-- are of one class; numbers from 2 up to 255, as a file has them
+pub record Exact (sets : List (List ℕ)) (color : ℕ → ℕ) : Type 0 where
+  pub safe : (x : ℕ) → unsafeObject sets x ≡ false → color x ≡ 0
+  pub low : (x : ℕ) → unsafeObject sets x ≡ true → 2 ≤ color x
+  pub high : (x : ℕ) → color x ≤ 255
+  pub apart : (x y : ℕ) → unsafeObject sets x ≡ true → color x ≡ color y → sameClass sets x y ≡ true
+  pub together : (x y : ℕ) → sameClass sets x y ≡ true → color x ≡ color y
+
+-- q guards p: it is version 2 of p under some exact colors
+pub record Guards (p q : Program) : Type 0 where
+  pub color : ℕ → ℕ
+  pub exact : Exact (unsafeSets p) color
+  pub form : q ≡ instrumented color p
+
+-- ---- what the instrumenter answers: a file, or a refusal; "then 8 and 9, last 10"
+
+pub data Answer : Type 0 where
+  file : List ℕ → Answer
+  refused : Refusal → Answer
+
+-- "9 | globals end above 28,672 | 0"
+abbrev pub laidOut : Reading → Reading
+laidOut (whole p) = elim (fits (piecesOf (p .objects))) [ true ↦ whole p | false ↦ Reading.refused (refusal 9 0) ]
+laidOut (Reading.refused q) = Reading.refused q
+
+-- the routine with its colors, or refusal 1 to 9
+abbrev pub accepted : (bytes : List ℕ) → Reading
+accepted bytes = laidOut (colored (readFile 1 bytes))
+
+-- "10 | room for the version 2 file too small | 0"
+abbrev pub roomFor : (room : ℕ) → List ℕ → Answer
+roomFor room bytes = elim (leb (length bytes) room) [ true ↦ file bytes | false ↦ Answer.refused (refusal 10 0) ]
+
+abbrev pub answerFor : (room : ℕ) → Reading → Answer
+answerFor room (whole p) = roomFor room (spellFile 2 (instrumented (colorIn p) p))
+answerFor room (Reading.refused q) = Answer.refused q
+
+unfoldable pub instrument : (bytes : List ℕ) (room : ℕ) → Answer
+instrument bytes room = answerFor room (accepted bytes)
+
+-- the room afterwards
+abbrev pub roomHolding : (room : List ℕ) → Answer → List ℕ
+roomHolding room (file bytes) = bytes ++ drop (length bytes) room
+roomHolding room (Answer.refused q) = room

@@ -1,0 +1,2 @@
+pub mod Instrumented
+pub mod Guards

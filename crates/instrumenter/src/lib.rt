@@ -1,0 +1,1 @@
+// Version 2 of a routine.

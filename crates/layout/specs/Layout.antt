@@ -1,0 +1,52 @@
+-- 01, "Memory and table": where the globals stand.
+use Prim.Native.Nat.{ℕ, zero, suc, _+_}
+use mathlib.Core.List.{List, [], _∷_, map}
+use mathlib.Core.Bool.{Bool, true, false}
+use lib.ListN.{length, getD, take}
+use lib.Dec.{eqb, leb}
+use Rattle.files.specs.declared.Object.{Object}
+use Rattle.files.specs.View.{extent}
+
+-- what the layout asks of an object: its kind, its size, and whether it is safe
+pub record Piece : Type 0 where
+  pub kind : ℕ
+  pub size : ℕ
+  pub safe : Bool
+
+-- "the safe globals (in version 2 those of color 0)"
+abbrev pub pieceOf : Object → Piece
+pieceOf o = record { kind = o .kind; size = o .size; safe = eqb (o .color) 0 }
+
+abbrev pub piecesOf : List Object → List Piece
+piecesOf objects = map pieceOf objects
+
+-- the bytes that a safe global takes: its extent; no other object takes any
+abbrev pub safeSpace : Piece → ℕ
+safeSpace o = elim (eqb (o .kind) 0) [ false ↦ 0 | true ↦ elim (o .safe) [ true ↦ extent (o .size) | false ↦ 0 ] ]
+
+-- the bytes that an unsafe global takes: its extent and a guard of 8
+abbrev pub unsafeSpace : Piece → ℕ
+unsafeSpace o = elim (eqb (o .kind) 0) [ false ↦ 0 | true ↦ elim (o .safe) [ true ↦ 0 | false ↦ extent (o .size) + 8 ] ]
+
+unfoldable pub total : (Piece → ℕ) → List Piece → ℕ
+total space [] = 0
+total space (o ∷ os) = space o + total space os
+
+-- "Slot 0 belongs to nothing. From address 8 stand the safe globals .. in order, each rounded up to
+-- eight (its extent); then a guard of 8; .."
+abbrev pub unsafeFrom : List Piece → ℕ
+unsafeFrom os = 8 + total safeSpace os + 8
+
+-- ".. then each unsafe global's extent, each followed by a guard of 8"
+abbrev pub endOf : List Piece → ℕ
+endOf os = unsafeFrom os + total unsafeSpace os
+
+-- the start of global g
+unfoldable pub startOf : List Piece → (g : ℕ) → ℕ
+startOf os g =
+    elim (getD os g (record { kind = 0; size = 0; safe = true }) .safe)
+    [ true ↦ 8 + total safeSpace (take g os) | false ↦ unsafeFrom os + total unsafeSpace (take g os) ]
+
+-- "This must end at or below 28,672": else refusal 9
+abbrev pub fits : List Piece → Bool
+fits os = leb (endOf os) 28672

@@ -1,0 +1,1 @@
+// Where the globals stand in memory.

@@ -1,0 +1,6 @@
+pub mod Stop
+pub mod State
+pub mod Step
+pub mod Runs
+pub mod Colors
+pub mod Running

@@ -1,0 +1,62 @@
+-- The state of a run, and what a rule brings: the machine is the same under the table of colors and
+-- under the plain rule, which differ in what they allow and in what they keep of made and freed
+-- objects.
+use Prim.Native.Nat.{ℕ, _+_}
+use mathlib.Core.List.{List, []}
+use mathlib.Core.Bool.{Bool}
+use lib.ListN.{getD, set, replicate}
+use Rattle.files.specs.declared.Instr.{Instr}
+use Rattle.files.specs.View.{Aim, inGlobal, atTemp, View}
+use Rattle.heap.specs.Memory.{memorySize}
+use Rattle.heap.specs.Heap.{Made, Freed, emptyHeap}
+
+-- a rule with a state S of its own
+pub record Rule (S : Type 0) : Type 0 where
+  -- the instructions, and the start of each global
+  pub code : List Instr
+  pub start : (g : ℕ) → ℕ
+  -- whether a store or a check of n bytes at an address may go on
+  pub allows : S → View → (address n : ℕ) → Bool
+  -- what ALLOC for a site and FREE of an address do to the rule's own state
+  pub making : S → (site : ℕ) → Made → S
+  pub freeing : S → (address : ℕ) → Freed → S
+
+-- what a run is given
+pub record Given : Type 0 where
+  pub input : List ℕ
+  pub room : ℕ
+  pub limit : ℕ
+
+pub record State (S : Type 0) : Type 0 where
+  pub temps : List ℕ
+  pub memory : List ℕ
+  pub outs : List ℕ
+  pub taken : ℕ
+  pub at : ℕ
+  pub steps : ℕ
+  pub own : S
+
+-- "16 temporaries of 32 bits, all 0 at the start"; "Memory and table are cleared and laid out at the
+-- start"
+unfoldable pub blankMemory : List ℕ
+blankMemory = replicate memorySize 0
+
+abbrev pub startState : {S : Type 0} → S → State S
+startState own =
+    record {
+      temps = replicate 16 0;
+      memory = emptyHeap blankMemory;
+      outs = [];
+      taken = 0;
+      at = 0;
+      steps = 0;
+      own = own;
+    }
+
+abbrev pub temp : List ℕ → (a : ℕ) → ℕ
+temp temps a = getD temps a 0
+
+-- "Addresses do not wrap": the address that an aim points at
+abbrev pub addressOf : (start : ℕ → ℕ) (temps : List ℕ) → Aim → ℕ
+addressOf start temps (inGlobal g k w) = start g + k
+addressOf start temps (atTemp a w) = temp temps a

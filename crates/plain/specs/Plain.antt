@@ -1,0 +1,72 @@
+-- The plain rule: "a store completes exactly when it is safe, or every byte of it lies in a live object
+-- of its class". It knows objects and places, and has no colors and no table.
+use Prim.Native.Nat.{ℕ, zero, suc, _+_}
+use mathlib.Core.List.{List, [], _∷_, _++_}
+use mathlib.Core.Bool.{Bool, true, false, not}
+use lib.ListN.{length, getD}
+use lib.Dec.{eqb}
+use Rattle.files.specs.declared.Object.{Object}
+use Rattle.files.specs.Program.{Program}
+use Rattle.files.specs.View.{Aim, View, act, jump, jumpIf, store, check, extent}
+use Rattle.coloring.specs.Unsafe.{safeAim, setOf, unsafeSets}
+use Rattle.coloring.specs.Class.{unsafeObject, sameClass}
+use Rattle.layout.specs.Layout.{Piece, startOf, fits}
+use Rattle.heap.specs.Memory.{everyByte}
+use Rattle.machine.specs.State.{Rule, Given}
+use Rattle.machine.specs.Runs.{Outcome, runs}
+use Rattle.plain.specs.Live.{Live, owns, someLive, liveMaking, liveFreeing}
+
+-- ---- the layout of a routine: an object is safe if no unsafe instruction's set holds it
+
+unfoldable pub plainPiecesFrom : (sets : List (List ℕ)) (g : ℕ) → List Object → List Piece
+plainPiecesFrom sets g [] = []
+plainPiecesFrom sets g (o ∷ os) =
+    record { kind = o .kind; size = o .size; safe = not (unsafeObject sets g) } ∷ plainPiecesFrom sets (g + 1) os
+
+abbrev pub plainPieces : Program → List Piece
+plainPieces p = plainPiecesFrom (unsafeSets p) 0 (p .objects)
+
+-- the globals as live objects: "In demand 3 an object is its extent"
+unfoldable pub globalsFrom : List Piece → (g : ℕ) → List Object → List Live
+globalsFrom pieces g [] = []
+globalsFrom pieces g (o ∷ os) =
+    elim (eqb (o .kind) 0) [
+      | true ↦ record { object = g; start = startOf pieces g; size = extent (o .size) } ∷ globalsFrom pieces (g + 1) os
+      | false ↦ globalsFrom pieces (g + 1) os
+    ]
+
+unfoldable pub globals : Program → List Live
+globals p = globalsFrom (plainPieces p) 0 (p .objects)
+
+-- ---- the rule
+
+-- "an instruction's class is that of its set": whether an object is of the class of a set
+abbrev pub ofClass : Program → (set : List ℕ) → (object : ℕ) → Bool
+ofClass p set object = sameClass (unsafeSets p) (getD set 0 0) object
+
+-- whether a byte lies in a live object of a set's class
+abbrev pub inClass : Program → (heap : List Live) → (set : List ℕ) → (address : ℕ) → Bool
+inClass p heap set address =
+    someLive (λ o. elim (owns o address) [ true ↦ ofClass p set (o .object) | false ↦ false ]) (globals p ++ heap)
+
+abbrev pub plainAllows : Program → (heap : List Live) → View → (address n : ℕ) → Bool
+plainAllows p heap (act x) address n = true
+plainAllows p heap (jump t) address n = true
+plainAllows p heap (jumpIf a t) address n = true
+plainAllows p heap (store aim b s) address n =
+    elim (safeAim p aim) [ true ↦ true | false ↦ everyByte n (inClass p heap (setOf p aim s)) address ]
+plainAllows p heap (check aim c) address n = true
+
+unfoldable pub plainRule : Program → Rule (List Live)
+plainRule p =
+    record {
+      code = p .code;
+      start = startOf (plainPieces p);
+      allows = plainAllows p;
+      making = liveMaking;
+      freeing = liveFreeing;
+    }
+
+-- the run of a routine under the plain rule
+abbrev pub plainRun : Program → Given → Outcome (List Live)
+plainRun p given = runs (plainRule p) given []

@@ -1,0 +1,1 @@
+// The plain rule and demand 3.
