@@ -1,0 +1,318 @@
+-- The table of opcodes, and one instruction: what is read is what is spelled there.
+use Prim.Native.Nat.{ℕ, zero, suc, _+_, _^_, _<_, _≤_}
+use mathlib.Core.Path.{_≡_, refl, sym, ap, _∙_, subst}
+use mathlib.Core.List.{List, [], _∷_, _++_}
+use mathlib.Core.Bool.{Bool, true, false}
+use mathlib.Core.Logic.{_⊎_, inl, inr}
+use native.Mathlib.Omega.{arith}
+use native.Mathlib.Nat.{eq-or-lt-of-le}
+use lib.ListN.{length, drop}
+use lib.Dec.{eqb, leb, ltb}
+use borrow.Author.Tests.{eqb-true, leb-true, ltb-true, le-leb}
+use Rattle.numbers.specs.declared.Cursor.{Cursor}
+use Rattle.numbers.specs.declared.Read.{Read}
+use Rattle.numbers.specs.Number.{spell}
+use Rattle.files.specs.declared.Operand.{Operand}
+use Rattle.files.specs.declared.Instr.{Instr}
+use Rattle.files.specs.declared.Instr.the-variants.{End, Place, Add, Sub, Less, Load8, Load32, Put8, Put32, Write8, Write32, Jump, JumpIf, Alloc, Free, In, Out, Check8, Check32, CheckPut8, CheckPut32}
+use Rattle.files.specs.declared.InstrRead.{InstrRead}
+use Rattle.files.specs.Table.{rowOf, make, Parts, partsOf}
+use Rattle.files.specs.Program.{Scope, within, present, allowed, isKind, lastOpcode}
+use Rattle.files.specs.Reading.{cursor, judged, readInstr, afterOpcode, afterFirst, afterSecond, afterThird, operandAt}
+use Rattle.files.specs.Writing.{spellIf, spellParts, spellInstr, goodOperand, goodParts, goodInstr, both}
+use Rattle.files.proofs.Stands.{Stands, stands-append, stands-split, Judged, judged-of-read, read-of-judged, Optional, optional-of-read, read-of-optional}
+use Rattle.files.proofs.SpelledObjects.{both-true, both-left, both-right, within-bounds, within-true}
+
+-- ---- the table's rule, once: what holds of each number below n holds of all of them
+
+abbrev upto : (ℕ → Type 0) → ℕ → Type 0
+upto P zero = Unit {0}
+upto P (suc n) = P n × upto P n
+
+below : (P : ℕ → Type 0) (n : ℕ) → upto P n → (k : ℕ) → k < n → P k
+below P zero all k h = absurd (omega arith)
+below P (suc n) all k h = go (below P n (all .1) k) (eq-or-lt-of-le (omega arith))
+  where
+    go : (k < n → P k) → (k ≡ n) ⊎ (k < n) → P k
+    go under (inl e) = rw e (all .0)
+    go under (inr l) = under l
+
+-- an operand that a row lacks is 0
+abbrev Blank : Operand → ℕ → Type 0
+Blank Operand.None n = n ≡ 0
+Blank Operand.Temporary n = Unit {0}
+Blank Operand.Number n = Unit {0}
+Blank Operand.Global n = Unit {0}
+Blank Operand.Site n = Unit {0}
+Blank Operand.Set n = Unit {0}
+Blank Operand.Offset n = Unit {0}
+Blank Operand.Target n = Unit {0}
+Blank Operand.Color n = Unit {0}
+
+abbrev parts : (op x y z : ℕ) → Parts
+parts op x y z = record { op = op; x = x; y = y; z = z }
+
+-- the parts of an instruction that is made of parts are those parts
+abbrev Back : ℕ → Type 0
+Back op = (x y z : ℕ) → Blank (rowOf op .first) x → Blank (rowOf op .second) y → Blank (rowOf op .third) z
+    → partsOf (make op x y z) ≡ parts op x y z
+
+all-back : upto Back 22
+all-back = (
+  λ x y z p q r. cc,
+  (
+    λ x y z p q r. cc,
+    (
+      λ x y z p q r. cc,
+      (
+        λ x y z p q r. cc,
+        (
+          λ x y z p q r. cc,
+          (
+            λ x y z p q r. cc,
+            (
+              λ x y z p q r. cc,
+              (
+                λ x y z p q r. cc,
+                (
+                  λ x y z p q r. cc,
+                  (
+                    λ x y z p q r. cc,
+                    (
+                      λ x y z p q r. cc,
+                      (
+                        λ x y z p q r. cc,
+                        (
+                          λ x y z p q r. cc,
+                          (
+                            λ x y z p q r. cc,
+                            (
+                              λ x y z p q r. cc,
+                              (
+                                λ x y z p q r. cc,
+                                (
+                                  λ x y z p q r. cc,
+                                  (
+                                    λ x y z p q r. cc,
+                                    (
+                                      λ x y z p q r. cc,
+                                      (
+                                        λ x y z p q r. cc,
+                                        (
+                                          λ x y z p q r. cc,
+                                          (
+                                            λ x y z p q r. cc,
+                                            tt,
+                                          ),
+                                        ),
+                                      ),
+                                    ),
+                                  ),
+                                ),
+                              ),
+                            ),
+                          ),
+                        ),
+                      ),
+                    ),
+                  ),
+                ),
+              ),
+            ),
+          ),
+        ),
+      ),
+    ),
+  ),
+)
+
+pub parts-make : (op : ℕ) → op < 22 → Back op
+parts-make = below Back 22 all-back
+
+pub make-parts : (i : Instr) → make (partsOf i .op) (partsOf i .x) (partsOf i .y) (partsOf i .z) ≡ i
+make-parts End = refl
+make-parts (Instr.Set x y) = refl
+make-parts (Place x y) = refl
+make-parts (Add x y z) = refl
+make-parts (Sub x y z) = refl
+make-parts (Less x y z) = refl
+make-parts (Load8 x y) = refl
+make-parts (Load32 x y) = refl
+make-parts (Put8 x y z) = refl
+make-parts (Put32 x y z) = refl
+make-parts (Write8 x y z) = refl
+make-parts (Write32 x y z) = refl
+make-parts (Jump x) = refl
+make-parts (JumpIf x y) = refl
+make-parts (Alloc x y z) = refl
+make-parts (Free x) = refl
+make-parts (In x) = refl
+make-parts (Out x) = refl
+make-parts (Check8 x y) = refl
+make-parts (Check32 x y) = refl
+make-parts (CheckPut8 x y z) = refl
+make-parts (CheckPut32 x y z) = refl
+
+-- ---- operands
+
+-- what an operand's place in a good file says: its kind's counts are those of a file
+pub record Bounded (scope : Scope) : Type 0 where
+  pub kinds : length (scope .kinds) < 2 ^ 32
+  pub sets : scope .sets < 2 ^ 32
+  pub code : scope .code < 2 ^ 32
+
+blank-of-good : (scope : Scope) (kind : Operand) (n : ℕ) → goodOperand scope kind n ≡ true → Blank kind n
+blank-of-good scope Operand.None n g = eqb-true n 0 g
+blank-of-good scope Operand.Temporary n g = tt
+blank-of-good scope Operand.Number n g = tt
+blank-of-good scope Operand.Global n g = tt
+blank-of-good scope Operand.Site n g = tt
+blank-of-good scope Operand.Set n g = tt
+blank-of-good scope Operand.Offset n g = tt
+blank-of-good scope Operand.Target n g = tt
+blank-of-good scope Operand.Color n g = tt
+
+kind-small : (kinds : List ℕ) (kind n : ℕ) → length kinds < 2 ^ 32 → isKind kinds kind n ≡ true → n < 2 ^ 32
+kind-small kinds kind n h e = go (ltb n (length kinds)) refl e
+  where
+    go : (b : Bool) → ltb n (length kinds) ≡ b → elim b as (λ _. Bool) [ true ↦ eqb (lib.ListN.getD kinds n 0) kind | false ↦ false ] ≡ true → n < 2 ^ 32
+    go true p e = omega (arith, ltb-true n (length kinds) p)
+    go false p e = let z : _≡_ {A = ℕ} 0 1 = cc in absurd (omega arith)
+
+small-of-allowed : (scope : Scope) → Bounded scope → (kind : Operand) (n : ℕ) → allowed scope kind n ≡ true → n < 2 ^ 32
+small-of-allowed scope b Operand.None n e = omega (arith, eqb-true n 0 e)
+small-of-allowed scope b Operand.Temporary n e = omega (arith, ltb-true n 16 e)
+small-of-allowed scope b Operand.Number n e = ltb-true n (2 ^ 32) e
+small-of-allowed scope b Operand.Global n e = kind-small (scope .kinds) 0 n (b .kinds) e
+small-of-allowed scope b Operand.Site n e = kind-small (scope .kinds) 1 n (b .kinds) e
+small-of-allowed scope b Operand.Set n e = omega (arith, ltb-true n (scope .sets) e)
+small-of-allowed scope b Operand.Offset n e = omega (arith, leb-true n 65535 e)
+small-of-allowed scope b Operand.Target n e = omega (arith, ltb-true n (scope .code) e)
+small-of-allowed scope b Operand.Color n e = omega (arith, within-bounds 2 255 n e .1)
+
+small-of-good : (scope : Scope) → Bounded scope → (kind : Operand) (n : ℕ) → goodOperand scope kind n ≡ true → n < 2 ^ 32
+small-of-good scope b kind n g = go (present (scope .version) kind) g
+  where
+    go : (s : Bool) → elim s as (λ _. Bool) [ true ↦ allowed scope kind n | false ↦ eqb n 0 ] ≡ true → n < 2 ^ 32
+    go true g = small-of-allowed scope b kind n g
+    go false g = omega (arith, eqb-true n 0 g)
+
+last-most : (version : ℕ) → lastOpcode version ≤ 21
+last-most version = go (eqb version 1)
+  where
+    go : (b : Bool) → elim b as (λ _. ℕ) [ true ↦ 17 | false ↦ 21 ] ≤ 21
+    go true = omega arith
+    go false = omega arith
+
+-- ---- an instruction
+
+module _ (scope : Scope) (file : List ℕ) (at : ℕ) where
+  Right : Instr → ℕ → Type 0
+  Right i next = Stands file at (spellInstr (scope .version) i) next × (goodInstr scope i ≡ true)
+
+  -- the parts that were read, in their order
+  record Four (op x y z next : ℕ) : Type 0 where
+    a : ℕ
+    b : ℕ
+    c : ℕ
+    opcode : Judged file at (within 0 (lastOpcode (scope .version))) op a
+    first : Optional file a (present (scope .version) (rowOf op .first)) (allowed scope (rowOf op .first)) x b
+    second : Optional file b (present (scope .version) (rowOf op .second)) (allowed scope (rowOf op .second)) y c
+    third : Optional file c (present (scope .version) (rowOf op .third)) (allowed scope (rowOf op .third)) z next
+
+  four-right : (op x y z next : ℕ) → Four op x y z next → Right (make op x y z) next
+  unfolding Right
+  four-right op x y z next f =
+      let most : op ≤ lastOpcode (scope .version) = within-bounds 0 (lastOpcode (scope .version)) op (f .opcode .passes) .1 in
+      let back : partsOf (make op x y z) ≡ parts op x y z =
+      parts-make op (omega (arith, last-most (scope .version))) x y z
+      (blank-of-good scope (rowOf op .first) x (f .first .passes))
+      (blank-of-good scope (rowOf op .second) y (f .second .passes))
+      (blank-of-good scope (rowOf op .third) z (f .third .passes)) in
+      subst (λ (p : Parts). Stands file at (spellParts (scope .version) p) next × (goodParts scope p ≡ true)) (sym back) (
+        stands-append _ _ (f .opcode .stood) (stands-append _ _ (f .first .stood) (stands-append _ _ (f .second .stood) (f .third .stood))),
+        both-true _ _ (le-leb op (lastOpcode (scope .version)) most)
+            (both-true _ _ (f .first .passes) (both-true _ _ (f .second .passes) (f .third .passes))),
+      )
+
+  pub instr-of-read : {i : Instr} {c : Cursor} → readInstr scope file at ≡ InstrRead.Instr i c
+      → Stands file at (spellInstr (scope .version) i) (c .at) × (goodInstr scope i ≡ true)
+  unfolding Right
+  instr-of-read {i} {c} e = ops (judged 6 (within 0 (lastOpcode (scope .version))) file at) refl e
+    where
+      thirds : (op x y a b d : ℕ) → Judged file at (within 0 (lastOpcode (scope .version))) op a
+          → Optional file a (present (scope .version) (rowOf op .first)) (allowed scope (rowOf op .first)) x b
+          → Optional file b (present (scope .version) (rowOf op .second)) (allowed scope (rowOf op .second)) y d
+          → (r : Read) → operandAt scope (rowOf op .third) file d ≡ r → afterThird op x y r ≡ InstrRead.Instr i c → Right i (c .at)
+      thirds op x y a b d o p q (Read.Number z n) r e =
+          let made : make op x y z ≡ i = cc in
+          let ends : n ≡ c = cc in
+          subst (λ (j : Instr). Right j (c .at)) made
+          (four-right op x y z (c .at) (record { a = a; b = b; c = d; opcode = o; first = p; second = q; third = rw (← ends) (optional-of-read _ 6 _ file d r) }))
+      thirds op x y a b d o p q (Read.Refused w) r e = let z : _≡_ {A = ℕ} 0 1 = cc in absurd (omega arith)
+
+      seconds : (op x a b : ℕ) → Judged file at (within 0 (lastOpcode (scope .version))) op a
+          → Optional file a (present (scope .version) (rowOf op .first)) (allowed scope (rowOf op .first)) x b
+          → (r : Read) → operandAt scope (rowOf op .second) file b ≡ r → afterSecond scope file op x r ≡ InstrRead.Instr i c → Right i (c .at)
+      seconds op x a b o p (Read.Number y n) r e =
+          thirds op x y a b (n .at) o p (optional-of-read _ 6 _ file b r) (operandAt scope (rowOf op .third) file (n .at)) refl e
+      seconds op x a b o p (Read.Refused w) r e = let z : _≡_ {A = ℕ} 0 1 = cc in absurd (omega arith)
+
+      firsts : (op a : ℕ) → Judged file at (within 0 (lastOpcode (scope .version))) op a
+          → (r : Read) → operandAt scope (rowOf op .first) file a ≡ r → afterFirst scope file op r ≡ InstrRead.Instr i c → Right i (c .at)
+      firsts op a o (Read.Number x n) r e =
+          seconds op x a (n .at) o (optional-of-read _ 6 _ file a r) (operandAt scope (rowOf op .second) file (n .at)) refl e
+      firsts op a o (Read.Refused w) r e = let z : _≡_ {A = ℕ} 0 1 = cc in absurd (omega arith)
+
+      ops : (r : Read) → judged 6 (within 0 (lastOpcode (scope .version))) file at ≡ r → afterOpcode scope file r ≡ InstrRead.Instr i c → Right i (c .at)
+      ops (Read.Number op n) r e = firsts op (n .at) (judged-of-read 6 _ file at r) (operandAt scope (rowOf op .first) file (n .at)) refl e
+      ops (Read.Refused w) r e = let z : _≡_ {A = ℕ} 0 1 = cc in absurd (omega arith)
+
+-- an operand that stands there and is good is read
+read-of-operand : (scope : Scope) → Bounded scope → (file : List ℕ) (kind : Operand) (at n next : ℕ)
+    → Stands file at (spellIf (present (scope .version) kind) n) next → goodOperand scope kind n ≡ true
+    → operandAt scope kind file at ≡ Read.Number n (cursor next)
+read-of-operand scope bounded file kind at n next s g =
+    read-of-optional (present (scope .version) kind) 6 (allowed scope kind) file at
+    (record { stood = s; passes = g; small = small-of-good scope bounded kind n g })
+
+-- what good parts say, one by one
+pub record GoodParts (scope : Scope) (p : Parts) : Type 0 where
+  pub opcode : p .op ≤ lastOpcode (scope .version)
+  pub first : goodOperand scope (rowOf (p .op) .first) (p .x) ≡ true
+  pub second : goodOperand scope (rowOf (p .op) .second) (p .y) ≡ true
+  pub third : goodOperand scope (rowOf (p .op) .third) (p .z) ≡ true
+
+pub good-parts : (scope : Scope) (p : Parts) → goodParts scope p ≡ true → GoodParts scope p
+good-parts scope p g =
+    let fits : Bool = leb (p .op) (lastOpcode (scope .version)) in
+    let x : Bool = goodOperand scope (rowOf (p .op) .first) (p .x) in
+    let y : Bool = goodOperand scope (rowOf (p .op) .second) (p .y) in
+    let z : Bool = goodOperand scope (rowOf (p .op) .third) (p .z) in
+    let g₁ : both x (both y z) ≡ true = both-right fits (both x (both y z)) g in
+    let g₂ : both y z ≡ true = both-right x (both y z) g₁ in
+    record {
+      opcode = leb-true (p .op) (lastOpcode (scope .version)) (both-left fits (both x (both y z)) g);
+      first = both-left x (both y z) g₁;
+      second = both-left y z g₂;
+      third = both-right y z g₂;
+    }
+
+-- a good instruction whose spelling stands there is read
+pub read-of-instr : (scope : Scope) (file : List ℕ) (at : ℕ) → Bounded scope → (i : Instr) (next : ℕ)
+    → Stands file at (spellInstr (scope .version) i) next → goodInstr scope i ≡ true
+    → readInstr scope file at ≡ InstrRead.Instr i (cursor next)
+read-of-instr scope file at bounded i next s g =
+    let p : Parts = partsOf i in
+    let v : ℕ = scope .version in
+    let (s₁, r₁) = stands-split (spell (p .op)) _ s in
+    let (s₂, r₂) = stands-split (spellIf (present v (rowOf (p .op) .first)) (p .x)) _ r₁ in
+    let (s₃, s₄) = stands-split (spellIf (present v (rowOf (p .op) .second)) (p .y)) _ r₂ in
+    let good : GoodParts scope p = good-parts scope p g in
+    let op-read = read-of-judged 6 (within 0 (lastOpcode v)) file at
+    (record { stood = s₁; passes = within-true 0 (lastOpcode v) (p .op) (omega arith) (good .opcode); small = omega (arith, last-most v, good .opcode) }) in
+    ap (afterOpcode scope file) op-read
+    ∙ ap (afterFirst scope file (p .op)) (read-of-operand scope bounded file (rowOf (p .op) .first) _ (p .x) _ s₂ (good .first))
+    ∙ ap (afterSecond scope file (p .op) (p .x)) (read-of-operand scope bounded file (rowOf (p .op) .second) _ (p .y) _ s₃ (good .second))
+    ∙ ap (afterThird (p .op) (p .x) (p .y)) (read-of-operand scope bounded file (rowOf (p .op) .third) _ (p .z) next s₄ (good .third))
+    ∙ ap (λ (j : Instr). InstrRead.Instr j (cursor next)) (make-parts i)

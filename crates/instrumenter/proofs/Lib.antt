@@ -1,0 +1,12 @@
+pub mod Good
+pub mod Inside
+pub mod Exactly
+pub mod Spans
+pub mod Operands
+pub mod Lengths
+pub mod Instrumenting
+pub mod Recolored
+pub mod Answers
+pub mod ReadsBack
+pub mod Example
+pub mod Guarded

@@ -1,0 +1,171 @@
+-- Every object and every operand of version 2 is in its range: the objects have colors, a jump's target
+-- is below the new count, a check's color is 2 to 255, and no set is left.
+use Prim.Native.Nat.{ℕ, zero, suc, _+_, _<_, _≤_}
+use native.Mathlib.Omega.{arith}
+use mathlib.Core.Path.{_≡_, refl, sym, _∙_, ap}
+use mathlib.Core.Logic.{_≢_}
+use mathlib.Core.List.{List, [], _∷_, _++_, map}
+use mathlib.Core.Bool.{Bool, true, false}
+use lib.ListN.{length, getD}
+use lib.Dec.{ltb, leb, eqb}
+use borrow.Author.Tests.{eq-eqb, ne-eqb}
+use Rattle.files.specs.declared.Object.{Object}
+use Rattle.files.specs.declared.Instr.{Instr}
+use Rattle.files.specs.declared.Instr.the-variants.{End, Place, Add, Sub, Less, Load8, Load32, Put8, Put32, Write8, Write32, Jump, JumpIf, Alloc, Free, In, Out, Check8, Check32, CheckPut8, CheckPut32}
+use Rattle.files.specs.Program.{Program, Scope, within, isColor, isKind, kindsOf}
+use Rattle.files.specs.Writing.{both, every, goodObject, goodInstr, scopeOf}
+use Rattle.files.specs.View.{Aim, inGlobal, atTemp, View, act, jump, jumpIf, store, check, view, checkInstr, one, four}
+use Rattle.coloring.specs.Unsafe.{safeAim, setOf, unsafeSet, setsIn, unsafeSets}
+use Rattle.coloring.specs.Class.{unsafeObject}
+use Rattle.coloring.specs.Colored.{tinted}
+use Rattle.instrumenter.specs.Instrumented.{colorOfSet, checkOf, moved, guarded}
+use Rattle.instrumenter.specs.Guards.{Exact}
+use Rattle.instrumenter.proofs.Good.{no-test, both-left, both-right, both-true, within-true, every-head, every-tail, every-cons, every-append, Routine}
+use Rattle.instrumenter.proofs.Inside.{GoodStore, good-store, store-unsafe, unsafe-later}
+use Rattle.instrumenter.proofs.Spans.{check-safe, check-unsafe}
+
+-- ---- objects
+
+module _ (p : Program) (color : ℕ → ℕ) (exact : Exact (unsafeSets p) color) where
+  pub in-range : (x : ℕ) → unsafeObject (unsafeSets p) x ≡ true → within 2 255 (color x) ≡ true
+  in-range x h = within-true 2 255 (color x) (exact .low x h) (exact .high x)
+
+  pub is-color : (x : ℕ) → isColor (color x) ≡ true
+  is-color x = go (unsafeObject (unsafeSets p) x) refl
+    where
+      go : (b : Bool) → unsafeObject (unsafeSets p) x ≡ b → isColor (color x) ≡ true
+      go true e =
+          let l : 2 ≤ color x = exact .low x e in
+          simp (ne-eqb (color x) 0 (λ (z : color x ≡ 0). omega arith), isColor) (in-range x e)
+      go false e = let z : color x ≡ 0 = exact .safe x e in simp (eq-eqb (color x) 0 z, isColor)
+
+module _ (color : ℕ → ℕ) (is : (x : ℕ) → isColor (color x) ≡ true) where
+  pub good-tinted : (from : ℕ) (os : List Object) → every (goodObject 1) os ≡ true → every (goodObject 2) (tinted color from os) ≡ true
+  unfolding tinted every
+  good-tinted from [] h = refl
+  good-tinted from (o ∷ os) h =
+      every-cons (goodObject 2) (record { kind = o .kind; size = o .size; color = color from }) (tinted color (from + 1) os)
+      (both-true
+      (elim (eqb (o .kind) 0) [ true ↦ within 1 4096 (o .size) | false ↦ both (eqb (o .kind) 1) (eqb (o .size) 0) ])
+      (isColor (color from))
+      (both-left
+      (elim (eqb (o .kind) 0) [ true ↦ within 1 4096 (o .size) | false ↦ both (eqb (o .kind) 1) (eqb (o .size) 0) ])
+      (eqb (o .color) 0)
+      (every-head (goodObject 1) o os h))
+      (is from))
+      (good-tinted (from + 1) os (every-tail (goodObject 1) o os h))
+
+pub kinds-tinted : (color : ℕ → ℕ) (from : ℕ) (os : List Object) → kindsOf (tinted color from os) ≡ kindsOf os
+unfolding tinted
+kinds-tinted color from [] = refl
+kinds-tinted color from (o ∷ os) = ap (λ (l : List ℕ). o .kind ∷ l) (kinds-tinted color (from + 1) os)
+
+-- ---- instructions, for any new targets that are below the new count
+
+abbrev pub newScope : Program → (lines : ℕ) → Scope
+newScope p lines = record { version = 2; kinds = kindsOf (p .objects); sets = 0; code = lines }
+
+module _ (p : Program) (r : Routine p) (lines : ℕ) (target : ℕ → ℕ) (inside : (t : ℕ) → ltb t (length (p .code)) ≡ true → ltb (target t) lines ≡ true) where
+  -- the copy of an instruction
+  pub good-moved : (i : Instr) → goodInstr (scopeOf 1 p) i ≡ true → goodInstr (newScope p lines) (moved target i) ≡ true
+  good-moved End h = h
+  good-moved (Instr.Set d n) h = h
+  good-moved (Place d g) h = h
+  good-moved (Add d a b) h = h
+  good-moved (Sub d a b) h = h
+  good-moved (Less d a b) h = h
+  good-moved (Load8 d a) h = h
+  good-moved (Load32 d a) h = h
+  good-moved (Put8 g k a) h = h
+  good-moved (Put32 g k a) h = h
+  good-moved (Write8 a b s) h = both-true (ltb a 16) (both (ltb b 16) true) (both-left (ltb a 16) (both (ltb b 16) (ltb s (length (p .sets)))) h) (both-true (ltb b 16) true (both-left (ltb b 16) (ltb s (length (p .sets))) (both-right (ltb a 16) (both (ltb b 16) (ltb s (length (p .sets)))) h)) refl)
+  good-moved (Write32 a b s) h = both-true (ltb a 16) (both (ltb b 16) true) (both-left (ltb a 16) (both (ltb b 16) (ltb s (length (p .sets)))) h) (both-true (ltb b 16) true (both-left (ltb b 16) (ltb s (length (p .sets))) (both-right (ltb a 16) (both (ltb b 16) (ltb s (length (p .sets)))) h)) refl)
+  good-moved (Jump t) h = both-true (ltb (target t) lines) true (inside t (both-left (ltb t (length (p .code))) true h)) refl
+  good-moved (JumpIf a t) h = both-true (ltb a 16) (both (ltb (target t) lines) true) (both-left (ltb a 16) (both (ltb t (length (p .code))) true) h) (both-true (ltb (target t) lines) true (inside t (both-left (ltb t (length (p .code))) true (both-right (ltb a 16) (both (ltb t (length (p .code))) true) h))) refl)
+  good-moved (Alloc d g a) h = h
+  good-moved (Free a) h = h
+  good-moved (In d) h = h
+  good-moved (Out a) h = h
+  good-moved (Check8 a c) h = no-test h refl
+  good-moved (Check32 a c) h = no-test h refl
+  good-moved (CheckPut8 g k c) h = no-test h refl
+  good-moved (CheckPut32 g k c) h = no-test h refl
+
+  -- the check of a store whose class has a color
+  put-check : (g k a : ℕ) → (c : ℕ) → within 2 255 c ≡ true → both (isKind (kindsOf (p .objects)) 0 g) (both (leb k 65535) (ltb a 16)) ≡ true
+      → both (isKind (kindsOf (p .objects)) 0 g) (both (leb k 65535) (within 2 255 c)) ≡ true
+  put-check g k a c w h =
+      both-true (isKind (kindsOf (p .objects)) 0 g) (both (leb k 65535) (within 2 255 c))
+      (both-left (isKind (kindsOf (p .objects)) 0 g) (both (leb k 65535) (ltb a 16)) h)
+      (both-true (leb k 65535) (within 2 255 c)
+      (both-left (leb k 65535) (ltb a 16) (both-right (isKind (kindsOf (p .objects)) 0 g) (both (leb k 65535) (ltb a 16)) h))
+      w)
+
+  write-check : (a c : ℕ) (rest : Bool) → within 2 255 c ≡ true → both (ltb a 16) rest ≡ true → both (ltb a 16) (both (within 2 255 c) true) ≡ true
+  write-check a c rest w h =
+      both-true (ltb a 16) (both (within 2 255 c) true) (both-left (ltb a 16) rest h) (both-true (within 2 255 c) true w refl)
+
+  abbrev GoodCheck : View → Type 0
+  GoodCheck (act x) = Unit
+  GoodCheck (jump t) = Unit
+  GoodCheck (jumpIf a t) = Unit
+  GoodCheck (store aim b s) = (c : ℕ) → within 2 255 c ≡ true → goodInstr (newScope p lines) (checkInstr aim c) ≡ true
+  GoodCheck (check aim c) = Unit
+
+  good-check : (i : Instr) → goodInstr (scopeOf 1 p) i ≡ true → GoodCheck (view i)
+  good-check End h = tt
+  good-check (Instr.Set d n) h = tt
+  good-check (Place d g) h = tt
+  good-check (Add d a b) h = tt
+  good-check (Sub d a b) h = tt
+  good-check (Less d a b) h = tt
+  good-check (Load8 d a) h = tt
+  good-check (Load32 d a) h = tt
+  good-check (Put8 g k a) h = λ c w. put-check g k a c w h
+  good-check (Put32 g k a) h = λ c w. put-check g k a c w h
+  good-check (Write8 a b s) h = λ c w. write-check a c (both (ltb b 16) (ltb s (length (p .sets)))) w h
+  good-check (Write32 a b s) h = λ c w. write-check a c (both (ltb b 16) (ltb s (length (p .sets)))) w h
+  good-check (Jump t) h = tt
+  good-check (JumpIf a t) h = tt
+  good-check (Alloc d g a) h = tt
+  good-check (Free a) h = tt
+  good-check (In d) h = tt
+  good-check (Out a) h = tt
+  good-check (Check8 a c) h = tt
+  good-check (Check32 a c) h = tt
+  good-check (CheckPut8 g k c) h = tt
+  good-check (CheckPut32 g k c) h = tt
+
+  checks-in : (color : ℕ → ℕ) (v : View) (rest : List (List ℕ)) → GoodStore p r v → GoodCheck v
+      → ((x : ℕ) → unsafeObject (unsafeSet p v ++ rest) x ≡ true → within 2 255 (color x) ≡ true)
+      → every (goodInstr (newScope p lines)) (checkOf color p v) ≡ true
+  unfolding every
+  checks-in color (act x) rest g k tint = refl
+  checks-in color (jump t) rest g k tint = refl
+  checks-in color (jumpIf a t) rest g k tint = refl
+  checks-in color (store aim b s) rest g k tint = go (safeAim p aim) refl
+    where
+      go : (safe : Bool) → safeAim p aim ≡ safe → every (goodInstr (newScope p lines)) (checkOf color p (store aim b s)) ≡ true
+      go true e = rw (check-safe color p aim b s e)
+      go false e =
+          rw (check-unsafe color p aim b s e)
+          (every-cons (goodInstr (newScope p lines)) (checkInstr aim (colorOfSet color (setOf p aim s))) []
+          (k (colorOfSet color (setOf p aim s)) (tint (getD (setOf p aim s) 0 0) (store-unsafe p r aim b s rest g e)))
+          refl)
+  checks-in color (check aim c) rest g k tint = refl
+
+  -- the whole code, where what is unsafe in it has a color
+  pub good-guarded : (color : ℕ → ℕ) (code : List Instr) → every (goodInstr (scopeOf 1 p)) code ≡ true
+      → ((x : ℕ) → unsafeObject (setsIn p code) x ≡ true → within 2 255 (color x) ≡ true)
+      → every (goodInstr (newScope p lines)) (guarded color p target code) ≡ true
+  unfolding guarded setsIn every
+  good-guarded color [] h tint = refl
+  good-guarded color (i ∷ code) h tint =
+      let g : goodInstr (scopeOf 1 p) i ≡ true = every-head (goodInstr (scopeOf 1 p)) i code h in
+      every-append (goodInstr (newScope p lines)) (checkOf color p (view i)) (moved target i ∷ guarded color p target code)
+      (checks-in color (view i) (setsIn p code) (good-store p r i g) (good-check i g) tint)
+      (every-cons (goodInstr (newScope p lines)) (moved target i) (guarded color p target code)
+      (good-moved i g)
+      (good-guarded color code
+      (every-tail (goodInstr (scopeOf 1 p)) i code h)
+      (λ x u. tint x (unsafe-later x (unsafeSet p (view i)) (setsIn p code) u))))

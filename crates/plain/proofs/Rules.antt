@@ -1,0 +1,101 @@
+-- The two rules of demand 3, written out, and that they are alike: they start globals at the same
+-- places, and ALLOC and FREE keep the tie.
+use Prim.Native.Nat.{ℕ, zero, suc, _+_, _<_}
+use native.Mathlib.Nat.{not-suc-le-zero, le-of-suc-le-suc}
+use native.Mathlib.Omega.{arith}
+use mathlib.Core.Path.{_≡_, refl, sym, _∙_, ap, subst}
+use mathlib.Core.List.{List, [], _∷_}
+use mathlib.Core.Bool.{true}
+use lib.ListN.{length}
+use Rattle.files.specs.declared.Object.{Object}
+use Rattle.files.specs.Program.{Program}
+use Rattle.coloring.specs.Unsafe.{unsafeSets}
+use Rattle.coloring.specs.Colored.{tinted}
+use Rattle.layout.specs.Layout.{piecesOf, startOf, fits}
+use Rattle.instrumenter.specs.Guards.{Exact}
+use Rattle.instrumenter.specs.Instrumented.{instrumented}
+use Rattle.instrumenter.proofs.Guarded.{code₂}
+use Rattle.heap.specs.Heap.{Made, Freed, Alloc, Free, alloc, free, paintMade, paintFreed}
+use Rattle.heap.proofs.Alloc.{AllocFacts, alloc-facts}
+use Rattle.heap.proofs.Free.{FreeFacts, free-facts}
+use Rattle.machine.specs.State.{Rule}
+use Rattle.machine.specs.Colors.{tableAllows, colorOfObject, tableRule}
+use Rattle.machine.proofs.Effects.{Calm, Alike}
+use Rattle.plain.specs.Live.{Live, liveMaking, liveFreeing}
+use Rattle.plain.specs.Plain.{plainPieces, plainAllows, plainRule, globals}
+use Rattle.plain.specs.Demands.{recording}
+use Rattle.plain.proofs.Good.{Good}
+use Rattle.plain.proofs.Owners.{Each}
+use Rattle.plain.proofs.Painting.{Whole}
+use Rattle.plain.proofs.Globals.{pieces-same, globals-whole}
+use Rattle.plain.proofs.Holding.{Holds, holds-made, holds-freed}
+
+-- the color of an object of version 2
+tinted-color : (color : ℕ → ℕ) (objects : List Object) (from k : ℕ) → k < length objects → colorOfObject (tinted color from objects) k ≡ color (from + k)
+unfolding tinted
+tinted-color color [] from k h = absurd (not-suc-le-zero h)
+tinted-color color (o ∷ os) from zero h = ap color (omega arith)
+tinted-color color (o ∷ os) from (suc k) h = tinted-color color os (from + 1) k (le-of-suc-le-suc h) ∙ ap color (omega arith)
+
+module _ (p : Program) (color : ℕ → ℕ) where
+  abbrev pub objects₂ : List Object
+  objects₂ = tinted color 0 (p .objects)
+
+  abbrev pub rule₁ : Rule (List Live)
+  rule₁ = record { code = p .code; start = startOf (plainPieces p); allows = plainAllows p; making = liveMaking; freeing = liveFreeing }
+
+  -- with the live bodies that the run records
+  abbrev pub rule₂ : Rule (List ℕ × List Live)
+  rule₂ =
+      record {
+        code = code₂ color p;
+        start = startOf (piecesOf objects₂);
+        allows = λ own v address n. tableAllows (own .0) v address n;
+        making = λ own site k. (paintMade (own .0) (colorOfObject objects₂ site) k, liveMaking (own .1) site k);
+        freeing = λ own address f. (paintFreed (own .0) f, liveFreeing (own .1) address f);
+      }
+
+  pub rule₁-is : plainRule p ≡ rule₁
+  unfolding plainRule
+  rule₁-is = refl
+
+  pub rule₂-is : recording (tableRule (instrumented color p)) ≡ rule₂
+  unfolding tableRule instrumented
+  rule₂-is = refl
+
+  module _ (exact : Exact (unsafeSets p) color) (good : Good p) (fitting : fits (plainPieces p) ≡ true) where
+    pub start-same : startOf (piecesOf objects₂) ≡ startOf (plainPieces p)
+    start-same = ap startOf (pieces-same (unsafeSets p) color exact (p .objects) 0)
+
+    whole : Each Whole (globals p)
+    whole = globals-whole p fitting
+
+    module _ (live : List Live) (own : List ℕ × List Live) (m : List ℕ) (h : Holds p color live own m) where
+      alloc-says : (size g : ℕ) → g < length (p .objects) → AllocFacts color m (own .0) (h .blocks) g (alloc m size g)
+      alloc-says size g site = alloc-facts color m (own .0) (h .blocks) size g (h .tied) (omega (arith, good .few))
+
+      free-says : (address : ℕ) → FreeFacts color m (own .0) (h .blocks) address (free m address)
+      free-says address = free-facts color m (own .0) (h .blocks) address (h .tied)
+
+      made-keeps : (size g : ℕ) (k : Made) → g < length (p .objects) → alloc m size g ≡ Alloc.made k
+          → Holds p color (liveMaking live g k) (rule₂ .making own g k) (k .memory)
+      made-keeps size g k site e =
+          subst (λ c. Holds p color (liveMaking live g k) (paintMade (own .0) c k, liveMaking (own .1) g k) (k .memory))
+          (sym (tinted-color color (p .objects) 0 g site ∙ ap color (omega arith)))
+          (holds-made p color whole live own m h g k (subst (AllocFacts color m (own .0) (h .blocks) g) e (alloc-says size g site)))
+
+      freed-keeps : (address : ℕ) (f : Freed) → free m address ≡ Free.freed f
+          → Holds p color (liveFreeing live address f) (rule₂ .freeing own address f) (f .memory)
+      freed-keeps address f e =
+          holds-freed p color whole live own m h address f (subst (FreeFacts color m (own .0) (h .blocks) address) e (free-says address))
+
+    pub alike : Alike (Holds p color) Calm rule₁ rule₂ (λ g. g < length (p .objects))
+    alike =
+        record {
+          starts = λ g. ap (λ f. f g) start-same;
+          calm = λ x c. c;
+          made = λ live own m size g k h site e. made-keeps live own m h size g k site e;
+          broken = λ live own m size g h site e. subst (AllocFacts color m (own .0) (h .blocks) g) e (alloc-says live own m h size g site);
+          freed = λ live own m address f h e. freed-keeps live own m h address f e;
+          broken′ = λ live own m address h e. subst (FreeFacts color m (own .0) (h .blocks) address) e (free-says live own m h address);
+        }
