@@ -1,2 +1,4 @@
 pub mod Memory
 pub mod Heap
+pub mod Lent
+pub mod Search

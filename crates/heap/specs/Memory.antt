@@ -38,6 +38,11 @@ slot address = address / 8
 unfoldable pub colorAt : (table : List ℕ) (address : ℕ) → ℕ
 colorAt table address = getD table (slot address) 0
 
+-- "A check stops with 36 if a byte it covers lies at or above 57,344 or in a slot of another color"
+abbrev pub hasColor : (table : List ℕ) (color address : ℕ) → Bool
+hasColor table color address =
+    elim (ltb address memorySize) [ true ↦ eqb (colorAt table address) color | false ↦ false ]
+
 -- the slots of n bytes from an address on get a color; both are multiples of eight
 abbrev pub paint : (table : List ℕ) (address n color : ℕ) → List ℕ
 paint table address n color = fill table (slot address) (slot n) color

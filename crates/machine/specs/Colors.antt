@@ -4,19 +4,14 @@ use Prim.Native.Nat.{ℕ, _+_}
 use mathlib.Core.List.{List, [], _∷_}
 use mathlib.Core.Bool.{Bool, true, false}
 use lib.ListN.{getD, replicate}
-use lib.Dec.{ltb, eqb}
+use lib.Dec.{eqb}
 use Rattle.files.specs.declared.Object.{Object}
 use Rattle.files.specs.Program.{Program}
 use Rattle.files.specs.View.{View, act, jump, jumpIf, store, check, extent}
 use Rattle.layout.specs.Layout.{Piece, piecesOf, startOf}
-use Rattle.heap.specs.Memory.{memorySize, tableSize, colorAt, paint, everyByte}
+use Rattle.heap.specs.Memory.{tableSize, hasColor, paint, everyByte}
 use Rattle.heap.specs.Heap.{heapStart, endSlot, paintMade, paintFreed}
 use Rattle.machine.specs.State.{Rule}
-
--- "A check stops with 36 if a byte it covers lies at or above 57,344 or in a slot of another color"
-abbrev pub hasColor : (table : List ℕ) (color address : ℕ) → Bool
-hasColor table color address =
-    elim (ltb address memorySize) [ true ↦ eqb (colorAt table address) color | false ↦ false ]
 
 abbrev pub tableAllows : (table : List ℕ) → View → (address n : ℕ) → Bool
 tableAllows table (act x) address n = true

@@ -16,7 +16,7 @@ use Rattle.layout.specs.Layout.{fits}
 use Rattle.instrumenter.specs.Instrumented.{instrumented}
 use Rattle.instrumenter.specs.Guards.{Exact}
 use Rattle.heap.specs.Heap.{heapStart, endSlot}
-use Rattle.heap.proofs.Alloc.{tied-walk}
+use Rattle.plain.proofs.HeapAlloc.{tied-walk}
 use Rattle.machine.specs.State.{Given, State, startState}
 use Rattle.machine.specs.Colors.{tableRule, firstTable}
 use Rattle.plain.specs.Live.{Live, accountOf, account, liveBytes, freeBytes}

@@ -10,8 +10,8 @@ use lib.Dec.{eqb, ltb}
 use borrow.Author.Tests.{eq-eqb, ne-eqb, lt-ltb, le-ltb, ltb-true, ltb-false}
 use Rattle.heap.specs.Memory.{colorAt}
 use Rattle.heap.specs.Heap.{Block, isFree}
-use Rattle.heap.proofs.Blocks.{tint, Segment, segment-long}
-use Rattle.heap.proofs.Alloc.{AllFree}
+use Rattle.plain.proofs.HeapBlocks.{tint, Segment, segment-long}
+use Rattle.plain.proofs.HeapAlloc.{AllFree}
 use Rattle.plain.specs.Live.{Live, owns, adding, removing, liveBytes, freeSize, freeBytes}
 use Rattle.plain.proofs.Owners.{Each, each-map, owns-is, owns-inside}
 

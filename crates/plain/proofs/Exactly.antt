@@ -15,7 +15,8 @@ use Rattle.instrumenter.specs.Guards.{Exact, Guards}
 use Rattle.heap.specs.Memory.{everyByte}
 use Rattle.machine.specs.State.{Given, State, startState, addressOf}
 use Rattle.machine.specs.Step.{widthOf, lets}
-use Rattle.machine.specs.Colors.{hasColor, tableRule, firstTable}
+use Rattle.machine.specs.Colors.{tableRule, firstTable}
+use Rattle.heap.specs.Memory.{hasColor}
 use Rattle.machine.proofs.Effects.{image}
 use Rattle.plain.specs.Live.{Live}
 use Rattle.plain.specs.Plain.{plainPieces, plainAllows, plainRule}

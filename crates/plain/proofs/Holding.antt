@@ -25,11 +25,11 @@ use Rattle.coloring.specs.Class.{unsafeObject}
 use Rattle.instrumenter.specs.Guards.{Exact}
 use Rattle.heap.specs.Memory.{memorySize, colorAt, put, everyByte}
 use Rattle.heap.specs.Heap.{heapStart, endSlot, Block, Made, Freed, paintMade, paintFreed}
-use Rattle.heap.proofs.Memory.{length-put, put-outside, everyByte-same}
-use Rattle.heap.proofs.Blocks.{segment-keeps}
-use Rattle.heap.proofs.Alloc.{Tied, Handed}
-use Rattle.heap.proofs.Free.{Released}
-use Rattle.machine.specs.Colors.{hasColor}
+use Rattle.plain.proofs.HeapMemory.{length-put, put-outside, everyByte-same}
+use Rattle.plain.proofs.HeapBlocks.{segment-keeps}
+use Rattle.plain.proofs.HeapAlloc.{Tied, Handed}
+use Rattle.plain.proofs.HeapFree.{Released}
+use Rattle.heap.specs.Memory.{hasColor}
 use Rattle.plain.specs.Live.{Live, owns, adding, removing, liveMaking, liveFreeing}
 use Rattle.plain.specs.Plain.{globals, inClass}
 use Rattle.plain.proofs.Owners.{Each, each-append, each-map, owns-outside, Tells, tells-append, tells-class}

@@ -1,3 +1,33 @@
+-- What is proved of the definitions: demands 1 and 3, the heap's account, and that instrumented code
+-- never meets 35 or 38. No code is involved here; that the code does what the definitions say is proved
+-- in the crates below.
+--
+--   Stopping    every-run-stops: a run comes to a stop within its limit; stops-once: in one way alone
+--   Same        same-run, never-outside: the theorem of demand 3, which only composes
+--   Accounts    heap-accounts
+--   Untouched   headers-kept, unowned-kept: a store changes no header, no guard, no free body
+--   Exactly     check-passes-exactly: a check passes where the plain rule lets its store through
+--
+-- What carries them:
+--   Lockstep    one step of the routine is one step of version 2, or a check and its store
+--   Holding     the tie between live bodies, table and memory: what it says of a byte, what keeps it
+--   Rules       the two rules, written out, and that ALLOC and FREE keep the tie under both
+--   Start       the tie at the start
+--   Through     the states that version 2's run comes through
+--   Owners      one color or one class of a byte: the same test
+--   Bodies      the live bodies of a list of blocks
+--   Painting    objects painted one after the other
+--   Globals     the globals' places, and the first table below the heap
+--   Places      an instruction has the same place in both versions
+--   Aims        what a store of an accepted routine aims at
+--   Good        what an accepted routine's instructions may name
+--   Recorded    recording the live bodies changes no run
+pub mod HeapMemory
+pub mod HeapHeaders
+pub mod HeapBlocks
+pub mod HeapAlloc
+pub mod HeapFree
+pub mod LayoutPlaces
 pub mod Stopping
 pub mod Recorded
 pub mod Good

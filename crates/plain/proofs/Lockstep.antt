@@ -33,11 +33,11 @@ use Rattle.instrumenter.specs.Instrumented.{checkOf, newPlace}
 use Rattle.instrumenter.proofs.Guarded.{movedView, view-moved, view-check, code₂, place-past, place-inside, Alone, alone, Checked, checked}
 use Rattle.heap.specs.Memory.{memorySize, colorAt, bytesOf, put, everyByte, inside}
 use Rattle.heap.specs.Heap.{heapStart}
-use Rattle.heap.proofs.Memory.{length-bytesOf, everyByte-each}
+use Rattle.plain.proofs.HeapMemory.{length-bytesOf, everyByte-each}
 use Rattle.machine.specs.declared.Reason.{Reason}
 use Rattle.machine.specs.State.{Given, State, temp, addressOf}
 use Rattle.machine.specs.Step.{Effect, stops, passes, completes, stop, next, widthOf, storing, conclude, effect, nextAt, lets, perform, step}
-use Rattle.machine.specs.Colors.{hasColor}
+use Rattle.heap.specs.Memory.{hasColor}
 use Rattle.machine.proofs.Steps.{step-past, step-limit, step-goes}
 use Rattle.machine.proofs.Effects.{Calm, image, Follows, act-follows}
 use Rattle.plain.specs.Live.{Live}

@@ -16,8 +16,8 @@ use Rattle.instrumenter.specs.Guards.{Exact}
 use Rattle.instrumenter.specs.Instrumented.{instrumented}
 use Rattle.instrumenter.proofs.Guarded.{code₂}
 use Rattle.heap.specs.Heap.{Made, Freed, Alloc, Free, alloc, free, paintMade, paintFreed}
-use Rattle.heap.proofs.Alloc.{AllocFacts, alloc-facts}
-use Rattle.heap.proofs.Free.{FreeFacts, free-facts}
+use Rattle.plain.proofs.HeapAlloc.{AllocFacts, alloc-facts}
+use Rattle.plain.proofs.HeapFree.{FreeFacts, free-facts}
 use Rattle.machine.specs.State.{Rule}
 use Rattle.machine.specs.Colors.{tableAllows, colorOfObject, tableRule}
 use Rattle.machine.proofs.Effects.{Calm, Alike}

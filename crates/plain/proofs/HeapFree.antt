@@ -8,12 +8,12 @@ use mathlib.Core.Bool.{Bool, true, false}
 use lib.ListN.{length}
 use lib.Dec.{eqb}
 use borrow.Author.Tests.{eqb-true}
 use Rattle.heap.specs.Memory.{memorySize, tableSize, colorAt, paint}
 use Rattle.heap.specs.Heap.{heapStart, endSlot, Block, bodyOf, isFree, putHeader, Freed, Free, spare, release, freeIn, free, paintFreed}
-use Rattle.heap.proofs.Memory.{length-paint, paint-outside, paint-inside}
-use Rattle.heap.proofs.Headers.{length-putHeader, putHeader-outside, header-size, header-mark}
-use Rattle.heap.proofs.Blocks.{Segment, Swap, segment-long, segment-whole, segment-append, segment-swaps}
-use Rattle.heap.proofs.Alloc.{Tied, tied-walk, AllFree}
+use Rattle.plain.proofs.HeapMemory.{length-paint, paint-outside, paint-inside}
+use Rattle.plain.proofs.HeapHeaders.{length-putHeader, putHeader-outside, header-size, header-mark}
+use Rattle.plain.proofs.HeapBlocks.{Segment, Swap, segment-long, segment-whole, segment-append, segment-swaps}
+use Rattle.plain.proofs.HeapAlloc.{Tied, tied-walk, AllFree}
 
 module _ (color : ℕ → ℕ) (m table : List ℕ) where
   -- ---- one free block in the place of whatever stood between two addresses

@@ -1,0 +1,134 @@
+//! One small case for every refusal and every stop of every kind, so that no
+//! trial depends on luck to reach them all.
+
+use crate::file::{write_numbers, Instrumented, Object, Routine, Version};
+use crate::gen::known;
+use crate::gen::random::Random;
+use crate::gen::worst;
+use crate::instruction::Instruction::{self, *};
+use crate::instrument::instrument_routine;
+use crate::wire::{Case, Kind};
+
+/// The kinds that read a file of the version.
+fn kinds_reading(version: Version) -> &'static [Kind] {
+    match version {
+        Version::Routine => &[Kind::ReadRoutine, Kind::Color, Kind::Instrument, Kind::Control],
+        Version::Instrumented => &[Kind::ReadInstrumented, Kind::WriteInstrumented, Kind::Run],
+    }
+}
+
+/// A file for each of the refusals 1 to 7.
+fn refused_files(version: Version) -> Vec<Vec<u8>> {
+    let number = version.number();
+    let mut surplus = good_file(version);
+    surplus.push(0);
+    vec![
+        vec![number as u8; version.longest() + 1],
+        write_numbers(&[number]),
+        vec![number as u8 | 0x80, 0],
+        write_numbers(&[3]),
+        write_numbers(&[number, 401]),
+        write_numbers(&[number, 1, 2]),
+        surplus,
+    ]
+}
+
+/// END alone.
+fn good_file(version: Version) -> Vec<u8> {
+    match version {
+        Version::Routine => write_numbers(&[1, 0, 0, 1, 0]),
+        Version::Instrumented => write_numbers(&[2, 0, 1, 0]),
+    }
+}
+
+/// Code, with the limit, for each stop that instrumented code can meet. The
+/// objects are a global and a site; there is no input and no room.
+fn stopped_codes() -> Vec<(u32, Vec<Instruction>)> {
+    let outside = Set { d: 0, n: 57_341 };
+    vec![
+        (9, vec![End]),
+        (9, vec![Set { d: 0, n: 0 }]),
+        (5, vec![Jump { p: 0 }]),
+        (9, vec![In { d: 0 }]),
+        (9, vec![Out { a: 0 }]),
+        (9, vec![outside, Load32 { d: 0, a: 0 }]),
+        (9, vec![outside, Write32 { a: 0, b: 0, s: 0 }]),
+        (9, vec![outside, Free { a: 0 }]),
+    ]
+}
+
+/// Code for the stops that only code by somebody else can meet.
+fn codes_by_somebody() -> Vec<Vec<Instruction>> {
+    let forge = [Set { d: 0, n: 28_672 }, Write32 { a: 0, b: 1, s: 0 }, Free { a: 0 }];
+    vec![vec![Set { d: 0, n: 57_341 }, Write32 { a: 0, b: 0, s: 0 }], forge.to_vec()]
+}
+
+fn of_code(code: Vec<Instruction>) -> Routine {
+    Routine {
+        objects: vec![Object::Global { size: 8 }, Object::Site],
+        sets: vec![vec![0, 1]],
+        code,
+    }
+}
+
+fn stops() -> Vec<Case> {
+    let mut cases = Vec::new();
+    let mut push = |kind, limit, file| {
+        cases.push(Case { limit, room: 0, ..known::on_file(kind, file) });
+    };
+    for (limit, code) in stopped_codes() {
+        let routine = of_code(code);
+        if let Ok(program) = instrument_routine(&routine) {
+            push(Kind::Run, limit, program.write());
+        }
+        push(Kind::Control, limit, routine.write());
+    }
+    for code in codes_by_somebody() {
+        let Routine { objects, code, .. } = of_code(code);
+        let program = Instrumented { objects, colors: vec![2, 2], code };
+        push(Kind::Run, 9, program.write());
+    }
+    cases
+}
+
+/// Refusals 8 to 11, for each kind that has them.
+fn late_refusals() -> Vec<Case> {
+    let many = worst::classes(&mut Random::new(0), 255).write();
+    let full = worst::full_of_globals(4_081);
+    let colors = vec![0; full.objects.len()];
+    let full_2 = Instrumented { objects: full.objects.clone(), colors, code: full.code.clone() };
+    let full = full.write();
+    let good_1 = good_file(Version::Routine);
+    let good_2 = good_file(Version::Instrumented);
+    let no_room = |case: Case| Case { room: 3, ..case };
+    let short = |case: Case| Case { memory: case.memory - 1, ..case };
+    vec![
+        known::on_file(Kind::Color, many.clone()),
+        known::on_file(Kind::Instrument, many.clone()),
+        known::on_file(Kind::Control, many),
+        known::on_file(Kind::Instrument, full.clone()),
+        known::on_file(Kind::Control, full),
+        known::on_file(Kind::Run, full_2.write()),
+        no_room(known::on_file(Kind::Instrument, good_1.clone())),
+        no_room(known::on_file(Kind::WriteInstrumented, good_2.clone())),
+        Case { limit: 300, room: 1, ..Case::new(Kind::WriteNumber) },
+        Case { limit: 300, room: 4, cursor: 1, ..Case::new(Kind::WriteNumber) },
+        short(known::on_file(Kind::Control, good_1)),
+        short(known::on_file(Kind::Run, good_2)),
+    ]
+}
+
+/// All of them.
+pub fn cases() -> Vec<Case> {
+    let mut cases = Vec::new();
+    for version in [Version::Routine, Version::Instrumented] {
+        let files = refused_files(version);
+        for file in files.into_iter().chain([good_file(version)]) {
+            let kinds = kinds_reading(version).iter();
+            cases.extend(kinds.map(|&kind| known::on_file(kind, file.clone())));
+        }
+    }
+    cases.extend(late_refusals());
+    cases.extend(stops());
+    cases
+}

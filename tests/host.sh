@@ -1,0 +1,32 @@
+#!/usr/bin/env bash
+# The static library, as a host in C and one in Rust link it. The archive is for x86-64: elsewhere the
+# two hosts are compiled for x86-64 and run under an emulator where both can be had from Debian.
+set -euo pipefail
+cd "$(dirname "$0")/.."
+out=$(mktemp -d)
+trap 'rm -rf "$out"' EXIT
+
+rt staticlib controller >"$out/log" 2>&1 || { tail -n 5 "$out/log"; echo '0 passed, 1 failed'; exit 1; }
+archive=target/staticlib/libcontroller.a
+if [ "$(uname -m)" = x86_64 ]; then
+    cc=(cc) rust=(rustc) run=()
+else
+    as_root() { if [ "$(id -u)" -eq 0 ]; then "$@"; else sudo -n "$@"; fi; }
+    as_root dpkg --add-architecture amd64
+    as_root apt-get -q update >/dev/null
+    as_root env DEBIAN_FRONTEND=noninteractive apt-get -qy install --no-install-recommends \
+        gcc-x86-64-linux-gnu libc6-dev-amd64-cross qemu-user rustc libstd-rust-dev:amd64 >/dev/null
+    cc=(x86_64-linux-gnu-gcc)
+    rust=(/usr/bin/rustc --target x86_64-unknown-linux-gnu -C linker=x86_64-linux-gnu-gcc)
+    run=(qemu-x86_64 -L /)
+fi
+"${cc[@]}" -Wall -Wextra -o "$out/c" host/test.c "$archive"
+"${rust[@]}" --edition 2021 -O -o "$out/rs" host/test.rs -C link-arg="$archive"
+passed=0 failed=0
+for host in c rs; do
+    said=$("${run[@]}" "$out/$host" | tee /dev/stderr | tail -n 1) || true
+    read -r n m <<<"$(sed -nE 's/^([0-9]+) passed, ([0-9]+) failed$/\1 \2/p' <<<"$said")"
+    passed=$((passed + ${n:-0})) failed=$((failed + ${m:-1}))
+done
+echo "$passed passed, $failed failed"
+[ "$failed" -eq 0 ]
