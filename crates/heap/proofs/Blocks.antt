@@ -1,14 +1,13 @@
--- Headers: what the code writes and tests of one block.
-use Prim.Native.Nat.{ℕ, zero, suc, _+_, _-_, _%_, _≤_, _<_}
+-- Headers: what the code writes and tests of one block; memory at the start; answers by their parts.
+use Prim.Native.Nat.{ℕ, _+_, _%_, _≤_, _<_}
 use mathlib.Core.Path.{_≡_, refl, sym, ap, _∙_}
-use mathlib.Core.Bool.{Bool, true, false}
-use mathlib.Core.List.{List, [], _∷_}
-use native.Mathlib.Omega.{arith}
+use mathlib.Core.Bool.{false}
+use mathlib.Core.List.{List}
 use lib.ListN.{length, replicate}
-use lib.Dec.{leb, eqb}
-use borrow.Author.Tests.{le-leb, lt-leb, eq-eqb, ne-eqb, eqb-true, leb-true}
-use Rattle.heap.specs.Memory.{memorySize, bytesOf, numberAt, put}
-use Rattle.heap.specs.Heap.{Block, endSlot, heapStart, blockAt, putHeader, sound, emptyHeap}
+use lib.Dec.{leb}
+use borrow.Author.Tests.{le-leb, lt-leb, eq-eqb, ne-eqb}
+use Rattle.heap.specs.Memory.{memorySize, bytesOf, put}
+use Rattle.heap.specs.Heap.{Block, endSlot, heapStart, putHeader, sound, emptyHeap}
 use Rattle.heap.specs.Lent.{After, started}
 
 pub put-both : (m m₁ m₂ : List ℕ) (header size mark : ℕ) → m₁ ≡ put m header (bytesOf 4 size) → m₂ ≡ put m₁ (header + 4) (bytesOf 4 mark)
@@ -36,7 +35,8 @@ module _ (header size : ℕ) where
 
 -- ---- the start
 
-pub start-exact : (m m₁ m₂ : List ℕ) → length m ≡ memorySize → m₁ ≡ replicate (length m) 0 → m₂ ≡ putHeader m₁ heapStart 28656 0 → m₂ ≡ started m
+pub start-exact : (m m₁ m₂ : List ℕ) → length m ≡ memorySize → m₁ ≡ replicate (length m) 0 → m₂ ≡ putHeader m₁ heapStart 28656 0
+    → m₂ ≡ started m
 unfolding started emptyHeap
 start-exact m m₁ m₂ h e₁ e₂ = rw (eq-eqb (length m) memorySize h, started) (e₂ ∙ ap (λ x. putHeader x heapStart 28656 0) e₁)
 
@@ -50,5 +50,6 @@ start-other m h = rw (ne-eqb (length m) memorySize h, started) refl
 abbrev pub Same : {Answer : Type 0} → Answer → (memory table : List ℕ) → After Answer → Type 0
 Same a m t r = (a ≡ r .answer) × ((m ≡ r .memory) × (t ≡ r .table))
 
-pub same-as : {Answer : Type 0} (a : Answer) (m t : List ℕ) (r : After Answer) → r ≡ record { answer = a; memory = m; table = t } → Same a m t r
+pub same-as : {Answer : Type 0} (a : Answer) (m t : List ℕ) (r : After Answer) → r ≡ record { answer = a; memory = m; table = t }
+    → Same a m t r
 same-as a m t r e = (sym (ap (λ x. x .answer) e), (sym (ap (λ x. x .memory) e), sym (ap (λ x. x .table) e)))

@@ -1,11 +1,11 @@
 -- At their exact lengths the answers for lent memory and table are those of the definitions: for callers
 -- that hold memory of 57,344 bytes and a table of 7,168.
 use Prim.Native.Nat.{ℕ, suc, _+_, _≤_}
-use mathlib.Core.Path.{_≡_, refl, sym, ap, _∙_}
-use mathlib.Core.Bool.{Bool, true, false}
+use mathlib.Core.Path.{_≡_, refl, ap}
+use mathlib.Core.Bool.{true}
 use mathlib.Core.List.{List}
 use lib.ListN.{length, replicate}
-use lib.Dec.{leb, eqb, eqb·suc-zero}
+use lib.Dec.{leb, eqb·suc-zero}
 use borrow.Author.Tests.{eq-eqb, le-leb}
 use Rattle.heap.specs.Memory.{memorySize, tableSize, slot, inside, paint}
 use Rattle.heap.specs.Heap.{alloc, free, emptyHeap}

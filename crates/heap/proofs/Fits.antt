@@ -3,23 +3,24 @@
 -- The picture: by induction over the walk, the list of blocks has no free block that holds the size, and
 -- then the loop found 0 and the definition answers nothing; or it has one, and then the loop found its
 -- header, the definition takes the block that stands there, and that header was walked, so it is sound.
-use Prim.Native.Nat.{ℕ, zero, suc, _+_, _-_, _≤_, _<_}
-use mathlib.Core.Path.{_≡_, refl, sym, ap, ap₂, _∙_, subst}
-use mathlib.Core.Bool.{Bool, true, false, false≢true}
+use Prim.Native.Nat.{ℕ, zero, suc, _+_, _≤_, _<_}
+use mathlib.Core.Path.{_≡_, refl, sym, ap, _∙_, subst}
+use mathlib.Core.Bool.{Bool, true, false}
 use mathlib.Core.List.{List, [], _∷_}
 use native.Mathlib.Omega.{arith}
 use lib.ListN.{length}
 use lib.Dec.{leb, eqb}
-use borrow.Author.Tests.{le-leb, lt-leb, eq-eqb, ne-eqb, eqb-true, eqb-false, leb-true, leb-false}
+use borrow.Author.Tests.{le-leb, lt-leb, eq-eqb, ne-eqb, leb-true}
 use Rattle.files.specs.View.{extent}
 use Rattle.heap.specs.declared.Search.{Search}
 use Rattle.heap.specs.declared.Allocation.{Allocation}
-use Rattle.heap.specs.Memory.{memorySize, tableSize, numberAt, paint}
-use Rattle.heap.specs.Heap.{Block, Made, Alloc, isFree, endSlot, heapStart, blockAt, sound, Walk, unsound, blocks, withBlock, walkFrom, walk, takeBlock, firstFit, allocIn, alloc, paintMade}
+use Rattle.heap.specs.Memory.{memorySize, tableSize, numberAt}
+use Rattle.heap.specs.Heap.{Block, Made, Alloc, isFree, endSlot, heapStart, blockAt, sound, Walk, unsound, blocks, withBlock, walkFrom, walk, takeBlock, firstFit, allocIn, alloc}
 use Rattle.heap.specs.Lent.{afterAlloc, allocated, exact}
 use Rattle.heap.specs.Search.{firstOf, foundIn, fitIn, Fitting}
 use Rattle.heap.proofs.Blocks.{Same, same-as}
 use Rattle.heap.proofs.Exact.{allocated-exact}
+use Rattle.heap.proofs.Taking.{Taken}
 use Rattle.heap.proofs.Walks.{Sound, sound-says, nextOf}
 
 -- a header that was found stays
@@ -86,12 +87,36 @@ module _ (m : List ℕ) (want : ℕ) where
       let later : FitsIn (walkFrom left m (nextOf m at)) = fits-walk left (nextOf m at) (omega arith) in
       go (eqb at endSlot) refl (sound (blockAt m at)) refl later
     where
-      go : (x : Bool) → eqb at endSlot ≡ x → (y : Bool) → sound (blockAt m at) ≡ y → FitsIn (walkFrom left m (nextOf m at)) → FitsIn (walkFrom (suc left) m at)
+      go : (x : Bool) → eqb at endSlot ≡ x → (y : Bool) → sound (blockAt m at) ≡ y → FitsIn (walkFrom left m (nextOf m at))
+          → FitsIn (walkFrom (suc left) m at)
       go true e y s later = rw (e, walkFrom) (none refl (λ mark. refl))
       go false e true s later = rw (e, s, walkFrom) (with-block at low s (walkFrom left m (nextOf m at)) later)
       go false e false s later = rw (e, s, walkFrom) tt
 
 -- ---- what ALLOC answers
+
+-- what a header that was found says: there is none, or its block is taken
+pub data Found (m t : List ℕ) (size site color want header : ℕ) : Type 0 where
+  nothing : header ≡ 0 → Same Allocation.Nothing m t (allocated m t size site color) → Found m t size site color want header
+  fitting : (header ≡ 0 → ⊥) → Fitting m t header want
+      → ((body : ℕ) (m′ t′ : List ℕ) → Taken m t color want (site + 1) header body m′ t′ → Same (Allocation.Made body) m′ t′
+      (allocated m t size site color))
+      → Found m t size site color want header
+
+module _ {m t : List ℕ} {size site color want header : ℕ} where
+  pub found-none : Found m t size site color want header → header ≡ 0 → Same Allocation.Nothing m t (allocated m t size site color)
+  found-none (nothing z e) h = e
+  found-none (fitting some k made) h = absurd (some h)
+
+  pub found-fits : Found m t size site color want header → (header ≡ 0 → ⊥) → Fitting m t header want
+  found-fits (nothing z e) h = absurd (h z)
+  found-fits (fitting some k made) h = k
+
+  pub found-made : Found m t size site color want header → (header ≡ 0 → ⊥)
+      → (body : ℕ) (m′ t′ : List ℕ) → Taken m t color want (site + 1) header body m′ t′ → Same (Allocation.Made body) m′ t′
+      (allocated m t size site color)
+  found-made (nothing z e) h = absurd (h z)
+  found-made (fitting some k made) h = made
 
 module _ (m t : List ℕ) (size site color : ℕ) where
   pub wrong-memory : (length m ≡ memorySize → ⊥) → Same Allocation.WrongLength m t (allocated m t size site color)
@@ -115,67 +140,44 @@ module _ (m t : List ℕ) (size site color : ℕ) where
       unfolding alloc
       size-above z h = same-as _ _ _ _ (after Alloc.nothing (rw (ne-eqb size 0 z, lt-leb size 4096 h, alloc) refl))
 
-      module _ (some : size ≡ 0 → ⊥) (most : size ≤ 4096) (want : ℕ) (wanted : want ≡ extent size) where
+      module _ (some : size ≡ 0 → ⊥) (most : size ≤ 4096) where
         walked : (w : Walk) → walk m ≡ w → alloc m size site ≡ allocIn m size site w
         unfolding alloc
         walked w e = rw (ne-eqb size 0 some, le-leb size 4096 most, alloc) (ap (allocIn m size site) e)
 
-        pub stopped : Search.Unsound ≡ fitIn 0 want (walk m) → Same Allocation.Unsound m t (allocated m t size site color)
-        stopped e = go (walk m) refl e
+        pub stopped : (want : ℕ) → Search.Unsound ≡ fitIn 0 want (walk m) → Same Allocation.Unsound m t (allocated m t size site color)
+        stopped want e = go (walk m) refl e
           where
             go : (w : Walk) → walk m ≡ w → Search.Unsound ≡ fitIn 0 want w → Same Allocation.Unsound m t (allocated m t size site color)
             go unsound q f = same-as _ _ _ _ (after Alloc.stopped (walked unsound q))
             go (blocks bs) q f = absurd (let z : _≡_ {A = ℕ} 0 1 = cc in omega arith)
 
-        -- what a header that was found says
-        pub data Found (header : ℕ) : Type 0 where
-          nothing : header ≡ 0 → Same Allocation.Nothing m t (allocated m t size site color) → Found header
-          fitting : Fitting m t header want
-              → ((body : ℕ) (m′ t′ : List ℕ) → (body ≡ takeBlock m (blockAt m header) want (site + 1) .body)
-              × ((m′ ≡ takeBlock m (blockAt m header) want (site + 1) .memory) × (t′ ≡ paintMade t color (takeBlock m (blockAt m header) want (site + 1))))
-              → Same (Allocation.Made body) m′ t′ (allocated m t size site color)) → (header ≡ 0 → ⊥) → Found header
+        module _ (want : ℕ) (wanted : want ≡ extent size) where
+          made : (header : ℕ) → alloc m size site ≡ Alloc.made (takeBlock m (blockAt m header) want (site + 1))
+              → (body : ℕ) (m′ t′ : List ℕ) → Taken m t color want (site + 1) header body m′ t′ → Same (Allocation.Made body)
+              m′ t′ (allocated m t size site color)
+          made header e body m′ t′ k =
+              let a = after (Alloc.made (takeBlock m (blockAt m header) want (site + 1))) e in (
+                ap (λ x. Allocation.Made x) (k .0) ∙ sym (ap (λ x. x .answer) a),
+                (k .1 .0 ∙ sym (ap (λ x. x .memory) a), k .1 .1 ∙ sym (ap (λ x. x .table) a)),
+              )
 
-        made : (header : ℕ) → alloc m size site ≡ Alloc.made (takeBlock m (blockAt m header) want (site + 1))
-            → (body : ℕ) (m′ t′ : List ℕ) → (body ≡ takeBlock m (blockAt m header) want (site + 1) .body)
-            × ((m′ ≡ takeBlock m (blockAt m header) want (site + 1) .memory) × (t′ ≡ paintMade t color (takeBlock m (blockAt m header) want (site + 1))))
-            → Same (Allocation.Made body) m′ t′ (allocated m t size site color)
-        made header e body m′ t′ k =
-            let a = after (Alloc.made (takeBlock m (blockAt m header) want (site + 1))) e in (
-              ap (λ x. Allocation.Made x) (k .0) ∙ sym (ap (λ x. x .answer) a),
-              (k .1 .0 ∙ sym (ap (λ x. x .memory) a), k .1 .1 ∙ sym (ap (λ x. x .table) a)),
-            )
-
-        pub found : (header : ℕ) → Search.Found header ≡ fitIn 0 want (walk m) → Found header
-        found header e = go (walk m) refl e (fits-walk m want 1792 heapStart (omega arith))
-          where
-            go : (w : Walk) → walk m ≡ w → Search.Found header ≡ fitIn 0 want w → FitsIn m want w → Found header
-            go unsound q f k = absurd (let z : _≡_ {A = ℕ} 0 1 = cc in omega arith)
-            go (blocks bs) q f (none z n) =
-                let f′ : Search.Found header ≡ Search.Found (foundIn 0 want bs) = f in
-                let is : header ≡ foundIn 0 want bs = cc in
-                let none : firstFit m bs (extent size) (site + 1) ≡ Alloc.nothing =
-                ap (λ x. firstFit m bs x (site + 1)) (sym wanted) ∙ n (site + 1) in
-                nothing (is ∙ z) (same-as _ _ _ _ (after Alloc.nothing (walked (blocks bs) q ∙ none)))
-            go (blocks bs) q f (one h z n k) =
-                let f′ : Search.Found header ≡ Search.Found (foundIn 0 want bs) = f in
-                let is : header ≡ foundIn 0 want bs = cc in
-                let taken : firstFit m bs (extent size) (site + 1) ≡ Alloc.made (takeBlock m (blockAt m h) want (site + 1)) =
-                ap (λ x. firstFit m bs x (site + 1)) (sym wanted) ∙ n (site + 1) in
-                subst (λ x. Found x) (sym (is ∙ z))
-                (fitting (record { memory = hm; table = ht; ends = k .ends; holds = k .holds })
-                (made h (walked (blocks bs) q ∙ taken)) (λ y. omega (arith, k .low)))
-
-        pub found-none : (header : ℕ) → Found header → header ≡ 0 → Same Allocation.Nothing m t (allocated m t size site color)
-        found-none header (nothing z e) h = e
-        found-none header (fitting k made some) h = absurd (some h)
-
-        pub found-fits : (header : ℕ) → Found header → (header ≡ 0 → ⊥) → Fitting m t header want
-        found-fits header (nothing z e) h = absurd (h z)
-        found-fits header (fitting k made some) h = k
-
-        pub found-made : (header : ℕ) → Found header → (header ≡ 0 → ⊥)
-            → (body : ℕ) (m′ t′ : List ℕ) → (body ≡ takeBlock m (blockAt m header) want (site + 1) .body)
-            × ((m′ ≡ takeBlock m (blockAt m header) want (site + 1) .memory) × (t′ ≡ paintMade t color (takeBlock m (blockAt m header) want (site + 1))))
-            → Same (Allocation.Made body) m′ t′ (allocated m t size site color)
-        found-made header (nothing z e) h = absurd (h z)
-        found-made header (fitting k made some) h = made
+          pub found : (header : ℕ) → Search.Found header ≡ fitIn 0 want (walk m) → Found m t size site color want header
+          found header e = go (walk m) refl e (fits-walk m want 1792 heapStart (omega arith))
+            where
+              go : (w : Walk) → walk m ≡ w → Search.Found header ≡ fitIn 0 want w → FitsIn m want w → Found m t size site color want header
+              go unsound q f k = absurd (let z : _≡_ {A = ℕ} 0 1 = cc in omega arith)
+              go (blocks bs) q f (none z n) =
+                  let f′ : Search.Found header ≡ Search.Found (foundIn 0 want bs) = f in
+                  let is : header ≡ foundIn 0 want bs = cc in
+                  let none : firstFit m bs (extent size) (site + 1) ≡ Alloc.nothing =
+                  ap (λ x. firstFit m bs x (site + 1)) (sym wanted) ∙ n (site + 1) in
+                  nothing (is ∙ z) (same-as _ _ _ _ (after Alloc.nothing (walked (blocks bs) q ∙ none)))
+              go (blocks bs) q f (one h z n k) =
+                  let f′ : Search.Found header ≡ Search.Found (foundIn 0 want bs) = f in
+                  let is : header ≡ foundIn 0 want bs = cc in
+                  let taken : firstFit m bs (extent size) (site + 1) ≡ Alloc.made (takeBlock m (blockAt m h) want (site + 1)) =
+                  ap (λ x. firstFit m bs x (site + 1)) (sym wanted) ∙ n (site + 1) in
+                  subst (λ x. Found m t size site color want x) (sym (is ∙ z))
+                  (fitting (λ y. omega (arith, k .low)) (record { memory = hm; table = ht; ends = k .ends; holds = k .holds })
+                  (made h (walked (blocks bs) q ∙ taken)))

@@ -6,22 +6,22 @@
 -- higher, so the loop changes nothing more; what the block behind adds is read at its header, which was
 -- walked, so the joined block ends at or below the end slot.
 use Prim.Native.Nat.{ℕ, zero, suc, _+_, _-_, _≤_, _<_}
-use mathlib.Core.Path.{_≡_, refl, sym, ap, ap₂, _∙_, subst}
-use mathlib.Core.Bool.{Bool, true, false, false≢true}
+use mathlib.Core.Path.{_≡_, refl, sym, ap, _∙_, subst}
+use mathlib.Core.Bool.{Bool, true, false}
 use mathlib.Core.List.{List, [], _∷_}
 use native.Mathlib.Omega.{arith}
 use lib.ListN.{length}
-use lib.Dec.{leb, eqb}
-use borrow.Author.Tests.{le-leb, lt-leb, eq-eqb, ne-eqb, eqb-true, eqb-false, leb-true, leb-false}
+use lib.Dec.{eqb}
+use borrow.Author.Tests.{eq-eqb, ne-eqb, eqb-true}
 use Rattle.heap.specs.declared.Search.{Search}
 use Rattle.heap.specs.declared.Release.{Release}
 use Rattle.heap.specs.Memory.{memorySize, tableSize, numberAt, paint}
-use Rattle.heap.specs.Heap.{Block, Freed, Free, bodyOf, isFree, endSlot, heapStart, blockAt, sound, Walk, unsound, blocks, withBlock, walkFrom, walk, putHeader, spare, release, freeIn, freeWalked, free, paintFreed}
+use Rattle.heap.specs.Heap.{Block, Freed, Free, isFree, endSlot, heapStart, blockAt, sound, Walk, unsound, blocks, withBlock, walkFrom, walk, putHeader, spare, freeIn, freeWalked, free}
 use Rattle.heap.specs.Lent.{afterFree, released, exact}
 use Rattle.heap.specs.Search.{spareOf, spareAt, startOf, startIn, liveIn, wholeOf, Joining}
 use Rattle.heap.proofs.Blocks.{Same, same-as}
 use Rattle.heap.proofs.Exact.{released-exact}
-use Rattle.heap.proofs.Walks.{Sound, sound-says, nextOf, blockOf, spare-below}
+use Rattle.heap.proofs.Walks.{Sound, sound-says, nextOf, spare-below}
 
 module _ (m : List ℕ) where
   -- ---- what the first of the blocks that are left adds
@@ -80,7 +80,8 @@ module _ (m : List ℕ) where
             let same : startOf start sp address (blockAt m at) ≡ start = rw (ne-eqb (at + 8) address (λ e. omega arith), startOf) refl in
             ap (λ x. startIn x (spareOf (blockAt m at)) address bs) same ∙ later start (spareOf (blockAt m at))
 
-        go : (x : Bool) → eqb at endSlot ≡ x → (y : Bool) → sound (blockAt m at) ≡ y → StaysIn (walkFrom left m (nextOf m at)) → StaysIn (walkFrom (suc left) m at)
+        go : (x : Bool) → eqb at endSlot ≡ x → (y : Bool) → sound (blockAt m at) ≡ y → StaysIn (walkFrom left m (nextOf m at))
+            → StaysIn (walkFrom (suc left) m at)
         go true e y s later = rw (e, walkFrom) (λ start sp. refl)
         go false e true s later = rw (e, s, walkFrom) (on (walkFrom left m (nextOf m at)) later)
         go false e false s later = rw (e, s, walkFrom) tt
@@ -99,7 +100,8 @@ module _ (m : List ℕ) where
 
     data Lives (previous bs : List Block) : Type 0 where
       missing : startIn 0 (spare previous) address bs ≡ 0 → freeIn m previous bs address ≡ Free.bad → Lives previous bs
-      live : (start : ℕ) → startIn 0 (spare previous) address bs ≡ start → freeIn m previous bs address ≡ Free.freed (joined start) → Joins start → Lives previous bs
+      live : (start : ℕ) → startIn 0 (spare previous) address bs ≡ start → freeIn m previous bs address ≡ Free.freed
+          (joined start) → Joins start → Lives previous bs
 
     abbrev LivesIn : (previous : List Block) → Walk → Type 0
     LivesIn previous unsound = Unit {0}
@@ -114,7 +116,8 @@ module _ (m : List ℕ) where
       passed bs e (live start f g k) =
           live start (ap (λ x. startIn x (spareOf (blockAt m at)) address bs) (rw (e, startOf) refl) ∙ f) (rw (e, freeIn) g) k
 
-      lives-cons : (bs : List Block) → (address ≡ at + 8 → StaysIn (blocks bs)) → SpareIn (nextOf m at) (blocks bs) → Lives (blockAt m at ∷ []) bs → Lives previous (blockAt m at ∷ bs)
+      lives-cons : (bs : List Block) → (address ≡ at + 8 → StaysIn (blocks bs)) → SpareIn (nextOf m at) (blocks bs) → Lives
+          (blockAt m at ∷ []) bs → Lives previous (blockAt m at ∷ bs)
       unfolding startIn freeIn blockAt
       lives-cons bs stays spared later = go (eqb (at + 8) address) refl (isFree (blockAt m at)) refl
         where
@@ -125,7 +128,8 @@ module _ (m : List ℕ) where
           go true e true f =
               let same : startOf 0 (spare previous) address (blockAt m at) ≡ 0 = rw (e, f, startOf) refl in
               missing
-              (ap (λ x. startIn x (spareOf (blockAt m at)) address bs) same ∙ stays (sym (eqb-true (at + 8) address e)) 0 (spareOf (blockAt m at)))
+              (ap (λ x. startIn x (spareOf (blockAt m at)) address bs) same ∙ stays (sym (eqb-true (at + 8) address e)) 0
+              (spareOf (blockAt m at)))
               (rw (e, f, freeIn) refl)
           go true e false f =
               let is : at + 8 ≡ address = eqb-true (at + 8) address e in
@@ -138,14 +142,22 @@ module _ (m : List ℕ) where
               let whole : spare previous + numberAt 4 m at + spare bs ≡ wholeOf m start address = omega (arith, spared .0, behind, size) in
               live start (ap (λ x. startIn x (spareOf (blockAt m at)) address bs) found ∙ stays (sym is) start (spareOf (blockAt m at)))
               (rw (e, f, freeIn) (ap (λ x. Free.freed (record { header = start; size = x; memory = putHeader m start x 0 })) whole))
-              (record { low = omega arith; above = omega arith; next = omega (arith, known .ends); ends = omega (arith, spared .1, behind, next) })
+              (record {
+                low = omega arith;
+                above = omega arith;
+                next = omega (arith, known .ends);
+                ends = omega
+                    (arith, spared .1, behind, next);
+              })
           go false e y f = passed bs e later
 
-      with-block : (w : Walk) → (address ≡ at + 8 → StaysIn w) → SpareIn (nextOf m at) w → LivesIn (blockAt m at ∷ []) w → LivesIn previous (withBlock (blockAt m at) w)
+      with-block : (w : Walk) → (address ≡ at + 8 → StaysIn w) → SpareIn (nextOf m at) w → LivesIn (blockAt m at ∷ []) w
+          → LivesIn previous (withBlock (blockAt m at) w)
       with-block unsound stays spared later = tt
       with-block (blocks bs) stays spared later = lives-cons bs stays spared later
 
-    lives-walk : (left at : ℕ) (previous : List Block) → spare previous + heapStart ≤ at → at ≤ endSlot → LivesIn previous (walkFrom left m at)
+    lives-walk : (left at : ℕ) (previous : List Block) → spare previous + heapStart ≤ at → at ≤ endSlot → LivesIn previous
+        (walkFrom left m at)
     unfolding walkFrom startIn freeIn
     lives-walk zero at previous low high = go (eqb at endSlot) refl
       where
@@ -153,13 +165,15 @@ module _ (m : List ℕ) where
         go true e = rw (e, walkFrom) (missing refl refl)
         go false e = rw (e, walkFrom) tt
     lives-walk (suc left) at previous low high =
-        go (eqb at endSlot) refl (sound (blockAt m at)) refl (λ known. lives-walk left (nextOf m at) (blockAt m at ∷ []) (spare-low known) (known .ends))
+        go (eqb at endSlot) refl (sound (blockAt m at)) refl
+        (λ known. lives-walk left (nextOf m at) (blockAt m at ∷ []) (spare-low known) (known .ends))
       where
         spare-low : Sound at (blockAt m at .size) → spare (blockAt m at ∷ []) + heapStart ≤ nextOf m at
         spare-low known = omega (arith, spare-below at (blockAt m at .size) (blockAt m at .mark) (spareOf (blockAt m at)) refl)
 
         go : (x : Bool) → eqb at endSlot ≡ x → (y : Bool) → sound (blockAt m at) ≡ y
-            → (Sound at (blockAt m at .size) → LivesIn (blockAt m at ∷ []) (walkFrom left m (nextOf m at))) → LivesIn previous (walkFrom (suc left) m at)
+            → (Sound at (blockAt m at .size) → LivesIn (blockAt m at ∷ []) (walkFrom left m (nextOf m at))) → LivesIn previous
+            (walkFrom (suc left) m at)
         go true e y s later = rw (e, walkFrom) (missing refl refl)
         go false e true s later =
             let known : Sound at (blockAt m at .size) = sound-at s in
@@ -169,6 +183,28 @@ module _ (m : List ℕ) where
         go false e false s later = rw (e, s, walkFrom) tt
 
 -- ---- what FREE answers
+
+-- what a start that was found says: there is none, or the block is joined
+pub data Found (m t : List ℕ) (address start : ℕ) : Type 0 where
+  bad : start ≡ 0 → Same Release.Bad m t (released m t address) → Found m t address start
+  joins : (start ≡ 0 → ⊥) → Joining m t start address
+      → Same Release.Freed (putHeader m start (wholeOf m start address) 0) (paint t (start + 8) (wholeOf m start address) 0)
+      (released m t address)
+      → Found m t address start
+
+module _ {m t : List ℕ} {address start : ℕ} where
+  pub found-none : Found m t address start → start ≡ 0 → Same Release.Bad m t (released m t address)
+  found-none (bad z e) h = e
+  found-none (joins some k e) h = absurd (some h)
+
+  pub found-joins : Found m t address start → (start ≡ 0 → ⊥) → Joining m t start address
+  found-joins (bad z e) h = absurd (h z)
+  found-joins (joins some k e) h = k
+
+  pub found-freed : Found m t address start → (start ≡ 0 → ⊥) → (m′ t′ : List ℕ) → m′ ≡ putHeader m start (wholeOf m start address) 0
+      → t′ ≡ paint t (start + 8) (wholeOf m start address) 0 → Same Release.Freed m′ t′ (released m t address)
+  found-freed (bad z e) h m′ t′ em et = absurd (h z)
+  found-freed (joins some k e) h m′ t′ em et = (e .0, (em ∙ e .1 .0, et ∙ e .1 .1))
 
 module _ (m t : List ℕ) (address : ℕ) where
   pub wrong-memory : (length m ≡ memorySize → ⊥) → Same Release.WrongLength m t (released m t address)
@@ -193,17 +229,10 @@ module _ (m t : List ℕ) (address : ℕ) where
           go unsound q f = same-as _ _ _ _ (after unsound q Free.stopped refl)
           go (blocks bs) q f = absurd (let z : _≡_ {A = ℕ} 0 1 = cc in omega arith)
 
-      -- what a start that was found says
-      pub data Found (start : ℕ) : Type 0 where
-        bad : start ≡ 0 → Same Release.Bad m t (released m t address) → Found start
-        joins : (start ≡ 0 → ⊥) → Joining m t start address
-            → Same Release.Freed (putHeader m start (wholeOf m start address) 0) (paint t (start + 8) (wholeOf m start address) 0) (released m t address)
-            → Found start
-
-      pub found : (start : ℕ) → Search.Found start ≡ liveIn 0 0 address (walk m) → Found start
+      pub found : (start : ℕ) → Search.Found start ≡ liveIn 0 0 address (walk m) → Found m t address start
       found start e = go (walk m) refl e (lives-walk m address 1792 heapStart [] (omega arith) (omega arith))
         where
-          go : (w : Walk) → walk m ≡ w → Search.Found start ≡ liveIn 0 0 address w → LivesIn m address [] w → Found start
+          go : (w : Walk) → walk m ≡ w → Search.Found start ≡ liveIn 0 0 address w → LivesIn m address [] w → Found m t address start
           go unsound q f k = absurd (let z : _≡_ {A = ℕ} 0 1 = cc in omega arith)
           go (blocks bs) q f (missing z n) =
               let f′ : Search.Found start ≡ Search.Found (startIn 0 0 address bs) = f in
@@ -212,19 +241,6 @@ module _ (m t : List ℕ) (address : ℕ) where
           go (blocks bs) q f (live s z n k) =
               let f′ : Search.Found start ≡ Search.Found (startIn 0 0 address bs) = f in
               let is : start ≡ startIn 0 0 address bs = cc in
-              subst (λ x. Found x) (sym (is ∙ z))
+              subst (λ x. Found m t address x) (sym (is ∙ z))
               (joins (λ y. omega (arith, k .low)) (record { memory = hm; table = ht; above = k .above; next = k .next; ends = k .ends })
               (same-as _ _ _ _ (after (blocks bs) q (Free.freed (joined m address s)) n)))
-
-      pub found-none : (start : ℕ) → Found start → start ≡ 0 → Same Release.Bad m t (released m t address)
-      found-none start (bad z e) h = e
-      found-none start (joins some k e) h = absurd (some h)
-
-      pub found-joins : (start : ℕ) → Found start → (start ≡ 0 → ⊥) → Joining m t start address
-      found-joins start (bad z e) h = absurd (h z)
-      found-joins start (joins some k e) h = k
-
-      pub found-freed : (start : ℕ) → Found start → (start ≡ 0 → ⊥) → (m′ t′ : List ℕ) → m′ ≡ putHeader m start (wholeOf m start address) 0
-          → t′ ≡ paint t (start + 8) (wholeOf m start address) 0 → Same Release.Freed m′ t′ (released m t address)
-      found-freed start (bad z e) h m′ t′ em et = absurd (h z)
-      found-freed start (joins some k e) h m′ t′ em et = (e .0, (em ∙ e .1 .0, et ∙ e .1 .1))

@@ -1,14 +1,12 @@
 -- Numbers of one and four bytes in memory, byte by byte; parts of memory or table that were lent and
 -- came back filled.
-use Prim.Native.Nat.{ℕ, zero, suc, _+_, _-_, _*_, _/_, _%_, _≤_, _<_}
+use Prim.Native.Nat.{ℕ, suc, _+_, _*_, _/_, _%_, _≤_, _<_}
 use mathlib.Core.Path.{_≡_, refl, sym, ap, _∙_}
-use mathlib.Core.List.{List, [], _∷_, _++_, append-assoc, append-nil}
-use native.Mathlib.Numerals.{add-one}
+use mathlib.Core.List.{List, _++_, append-assoc, append-nil}
 use native.Mathlib.Omega.{arith}
-use lib.ListN.{length, getD, set, take, drop, replicate, length-take, length-drop}
-use lib.Seq.{sets, drop-length, length-take-le, drop-drop}
-use lib.Dec.{leb}
-use mathlib.Core.Bool.{Bool, true, false}
+use lib.ListN.{length, getD, set, take, drop, replicate, length-drop}
+use lib.Seq.{drop-length, length-take-le, drop-drop}
+use mathlib.Core.Bool.{true, false}
 use borrow.Author.Tests.{le-leb, lt-leb}
 use Rattle.heap.specs.declared.Load.{Load}
 use Rattle.heap.specs.Lent.{within, loaded, stored}
@@ -18,7 +16,8 @@ pub number-1 : (m : List ℕ) (a : ℕ) → numberAt 1 m a ≡ getD m a 0
 unfolding numberAt
 number-1 m a = omega arith
 
-pub number-4 : (m : List ℕ) (a : ℕ) → numberAt 4 m a ≡ getD m a 0 + 256 * (getD m (a + 1) 0 + 256 * (getD m (a + 2) 0 + 256 * getD m (a + 3) 0))
+pub number-4 : (m : List ℕ) (a : ℕ) → numberAt 4 m a ≡ getD m a 0 + 256 *
+    (getD m (a + 1) 0 + 256 * (getD m (a + 2) 0 + 256 * getD m (a + 3) 0))
 unfolding numberAt
 number-4 m a =
     let two : a + 1 + 1 ≡ a + 2 = omega arith in
@@ -30,7 +29,8 @@ unfolding put bytesOf
 put-1 m a v = refl
 
 pub put-4 : (m : List ℕ) (a v : ℕ)
-    → put m a (bytesOf 4 v) ≡ set (set (set (set m a (v % 256)) (a + 1) (v / 256 % 256)) (a + 2) (v / 256 / 256 % 256)) (a + 3) (v / 256 / 256 / 256 % 256)
+    → put m a (bytesOf 4 v) ≡ set (set (set (set m a (v % 256)) (a + 1) (v / 256 % 256)) (a + 2) (v / 256 / 256 % 256)) (a + 3)
+    (v / 256 / 256 / 256 % 256)
 unfolding put bytesOf
 put-4 m a v =
     let one : a + 1 ≡ suc a = omega arith in

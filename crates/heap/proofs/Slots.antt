@@ -1,13 +1,13 @@
 -- What a check tests, slot by slot: four bytes touch at most two slots, those of the first and of the
 -- last byte.
-use Prim.Native.Nat.{ℕ, zero, suc, _+_, _/_, _≤_, _<_}
-use mathlib.Core.Path.{_≡_, refl, sym, ap, _∙_, subst}
+use Prim.Native.Nat.{ℕ, zero, suc, _+_, _≤_, _<_}
+use mathlib.Core.Path.{_≡_, refl, sym, ap, _∙_}
 use mathlib.Core.Bool.{Bool, true, false}
 use mathlib.Core.List.{List}
 use native.Mathlib.Nat.{not-suc-le-zero, le-of-suc-le-suc}
 use native.Mathlib.Omega.{arith}
 use lib.ListN.{length, getD, List·getD-eq-default}
-use lib.Dec.{ltb, eqb}
+use lib.Dec.{eqb}
 use borrow.Author.Tests.{le-leb, lt-leb, lt-ltb, le-ltb, eq-eqb, ne-eqb, eqb-true, eqb-false}
 use Rattle.heap.specs.Memory.{memorySize, slot, colorAt, hasColor, everyByte, paint}
 use Rattle.heap.specs.Lent.{painted}
@@ -60,7 +60,8 @@ module _ (t : List ℕ) (color : ℕ) where
   pub check-4-outside : (a : ℕ) → memorySize ≤ a + 3 → false ≡ everyByte 4 (hasColor t color) a
   check-4-outside a h = sym (every-fails 4 (hasColor t color) a 3 (omega arith) (outside (a + 3) h))
 
-  pub check-4-first : (a found : ℕ) → a + 3 < memorySize → found ≡ colorAt t a → (found ≡ color → ⊥) → false ≡ everyByte 4 (hasColor t color) a
+  pub check-4-first : (a found : ℕ) → a + 3 < memorySize → found ≡ colorAt t a → (found ≡ color → ⊥) → false ≡ everyByte 4
+      (hasColor t color) a
   check-4-first a found h e differs =
       let start : a + 0 ≡ a = omega arith in
       sym
@@ -81,7 +82,8 @@ module _ (t : List ℕ) (color : ℕ) where
           let differ : (slot (a + k) ≡ slot a → ⊥) = eqb-false _ _ e in
           same-slot (a + k) (a + 3) (omega arith) ∙ last
 
-  pub check-4-last : (a found last : ℕ) → a + 3 < memorySize → found ≡ colorAt t a → found ≡ color → last ≡ colorAt t (a + 3) → eqb last color ≡ everyByte 4 (hasColor t color) a
+  pub check-4-last : (a found last : ℕ) → a + 3 < memorySize → found ≡ colorAt t a → found ≡ color → last ≡ colorAt t (a + 3)
+      → eqb last color ≡ everyByte 4 (hasColor t color) a
   check-4-last a found last h e first e3 = go (eqb (colorAt t (a + 3)) color) refl
     where
       go : (b : Bool) → eqb (colorAt t (a + 3)) color ≡ b → eqb last color ≡ everyByte 4 (hasColor t color) a
@@ -101,8 +103,8 @@ past-table t a h = sym (List·getD-eq-default t 0 h)
 -- ---- painting any table
 
 module _ (t : List ℕ) (a n color : ℕ) where
-  pub paint-inside : (after : List ℕ) → slot a + slot n ≤ length t → after ≡ paint t a n color → after ≡ painted t a n color
-  paint-inside after h e = rw (le-leb (slot a + slot n) (length t) h, painted) e
+  pub painted-inside : (after : List ℕ) → slot a + slot n ≤ length t → after ≡ paint t a n color → after ≡ painted t a n color
+  painted-inside after h e = rw (le-leb (slot a + slot n) (length t) h, painted) e
 
-  pub paint-outside : length t < slot a + slot n → t ≡ painted t a n color
-  paint-outside h = rw (lt-leb (slot a + slot n) (length t) h, painted) refl
+  pub painted-outside : length t < slot a + slot n → t ≡ painted t a n color
+  painted-outside h = rw (lt-leb (slot a + slot n) (length t) h, painted) refl

@@ -1,30 +1,32 @@
 -- What ALLOC hands out and FREE joins, as the code finds and writes it.
-use Prim.Native.Nat.{ℕ, zero, suc, _+_, _-_, _*_, _%_, _≤_, _<_}
-use mathlib.Core.Path.{_≡_, refl, sym, ap, ap₂, _∙_}
-use mathlib.Core.Bool.{Bool, true, false, false≢true}
-use mathlib.Core.List.{List, [], _∷_}
+use Prim.Native.Nat.{ℕ, _+_, _-_, _≤_, _<_}
+use mathlib.Core.Path.{_≡_, ap, ap₂, _∙_}
+use mathlib.Core.List.{List}
 use native.Mathlib.Omega.{arith}
-use lib.Dec.{leb, eqb}
-use borrow.Author.Tests.{le-leb, lt-leb, eq-eqb, ne-eqb, eqb-true, eqb-false, leb-true, leb-false}
-use Rattle.heap.specs.declared.Search.{Search}
+use borrow.Author.Tests.{le-leb, lt-leb}
 use Rattle.heap.specs.Memory.{numberAt, paint}
-use Rattle.heap.specs.Heap.{Block, Made, bodyOf, blockAt, putHeader, handOut, takeBlock, paintMade}
+use Rattle.heap.specs.Heap.{blockAt, putHeader, handOut, takeBlock, paintMade}
 use Rattle.heap.specs.Search.{spareAt}
+
+-- body, memory and table are those of the block that is taken at a header
+abbrev pub Taken : (m t : List ℕ) (color want mark header body : ℕ) (m′ t′ : List ℕ) → Type 0
+Taken m t color want mark header body m′ t′ =
+    (body ≡ takeBlock m (blockAt m header) want mark .body)
+    × ((m′ ≡ takeBlock m (blockAt m header) want mark .memory) × (t′ ≡ paintMade t color (takeBlock m (blockAt m header) want mark)))
 
 module _ (m t : List ℕ) (header want mark color : ℕ) where
   pub taken-whole : (size r : ℕ) (m′ t′ : List ℕ) → size ≡ numberAt 4 m header → size < want + 16
       → r ≡ header + 8 → m′ ≡ handOut m header size mark → t′ ≡ paint t (header + 8) size color
-      → (r ≡ takeBlock m (blockAt m header) want mark .body)
-      × ((m′ ≡ takeBlock m (blockAt m header) want mark .memory) × (t′ ≡ paintMade t color (takeBlock m (blockAt m header) want mark)))
+      → Taken m t color want mark header r m′ t′
   unfolding takeBlock blockAt
   taken-whole size r m′ t′ e h er em et =
-      rw (lt-leb (want + 16) (numberAt 4 m header) (omega arith), takeBlock) (er, (em ∙ ap (λ s. handOut m header s mark) e, et ∙ ap (λ s. paint t (header + 8) s color) e))
+      rw (lt-leb (want + 16) (numberAt 4 m header) (omega arith), takeBlock)
+      (er, (em ∙ ap (λ s. handOut m header s mark) e, et ∙ ap (λ s. paint t (header + 8) s color) e))
 
   pub taken-cut : (size r : ℕ) (m₁ t₁ m′ t′ : List ℕ) → size ≡ numberAt 4 m header → want + 16 ≤ size
       → m₁ ≡ putHeader m (header + 8 + want) (size - want - 8) 0 → t₁ ≡ paint t (header + 8 + want) 8 1
       → r ≡ header + 8 → m′ ≡ handOut m₁ header want mark → t′ ≡ paint t₁ (header + 8) want color
-      → (r ≡ takeBlock m (blockAt m header) want mark .body)
-      × ((m′ ≡ takeBlock m (blockAt m header) want mark .memory) × (t′ ≡ paintMade t color (takeBlock m (blockAt m header) want mark)))
+      → Taken m t color want mark header r m′ t′
   unfolding takeBlock blockAt
   taken-cut size r m₁ t₁ m′ t′ e h e₁ f₁ er em et =
       rw (le-leb (want + 16) (numberAt 4 m header) (omega arith), takeBlock) (

@@ -4,16 +4,16 @@
 -- unsound, or is this block before the walk from the next header on. So a search that a loop carries
 -- along stays the same, search so far and walk that is left together, until the walk that is left is
 -- empty. A block takes at least 16 bytes, which is why the walk never runs out of turns.
-use Prim.Native.Nat.{ℕ, zero, suc, _+_, _-_, _*_, _%_, _≤_, _<_}
+use Prim.Native.Nat.{ℕ, zero, suc, _+_, _*_, _%_, _≤_, _<_}
 use mathlib.Core.Path.{_≡_, refl, sym, ap, ap₂, _∙_}
 use mathlib.Core.Bool.{Bool, true, false, false≢true}
-use mathlib.Core.List.{List, [], _∷_}
+use mathlib.Core.List.{List, []}
 use native.Mathlib.Omega.{arith}
 use lib.Dec.{leb, eqb}
-use borrow.Author.Tests.{le-leb, lt-leb, eq-eqb, ne-eqb, eqb-true, eqb-false, leb-true}
+use borrow.Author.Tests.{eq-eqb, ne-eqb, eqb-true, leb-true}
 use Rattle.heap.specs.declared.Search.{Search}
 use Rattle.heap.specs.Memory.{numberAt}
-use Rattle.heap.specs.Heap.{Block, bodyOf, isFree, endSlot, heapStart, blockAt, sound, Walk, unsound, blocks, withBlock, walkFrom, walk}
+use Rattle.heap.specs.Heap.{Block, endSlot, heapStart, blockAt, sound, Walk, unsound, blocks, withBlock, walkFrom, walk}
 use Rattle.heap.specs.Search.{firstOf, foundIn, fitIn, spareOf, startOf, startIn, liveIn}
 
 -- the next header
@@ -33,7 +33,8 @@ module _ (m : List ℕ) (left at : ℕ) where
   unfolding walkFrom
   walk-stops h s = rw (ne-eqb at endSlot (λ e. omega arith), s, walkFrom) refl
 
-  pub walk-goes : at < endSlot → sound (blockAt m at) ≡ true → walkFrom (suc left) m at ≡ withBlock (blockAt m at) (walkFrom left m (nextOf m at))
+  pub walk-goes : at < endSlot → sound (blockAt m at) ≡ true → walkFrom (suc left) m at ≡ withBlock (blockAt m at)
+      (walkFrom left m (nextOf m at))
   unfolding walkFrom
   walk-goes h s = rw (ne-eqb at endSlot (λ e. omega arith), s, walkFrom) refl
 
@@ -116,7 +117,8 @@ module _ {m : List ℕ} {at : ℕ} {search : Walk → Search} {goal : Search} (w
 
 -- ---- the two searches, one block on
 
-pub fit-step : (found want : ℕ) (b : Block) (found′ : ℕ) → found′ ≡ firstOf found want b → (w : Walk) → fitIn found want (withBlock b w) ≡ fitIn found′ want w
+pub fit-step : (found want : ℕ) (b : Block) (found′ : ℕ) → found′ ≡ firstOf found want b → (w : Walk) → fitIn found want
+    (withBlock b w) ≡ fitIn found′ want w
 unfolding foundIn
 fit-step found want b found′ e unsound = refl
 fit-step found want b found′ e (blocks bs) = ap (λ x. Search.Found (foundIn x want bs)) (sym e)

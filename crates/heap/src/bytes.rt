@@ -1,7 +1,7 @@
 // Bytes of memory: one filling function, and numbers of one or four bytes, low byte first.
 ghost use mathlib.Core.Path.{_≡_};
 ghost use Prim.Native.Nat.{_+_, _≤_, _%_};
-ghost use lib.ListN.{length, getD, replicate};
+ghost use lib.ListN.{length, replicate};
 ghost use Rattle.heap.specs.Memory.{numberAt, bytesOf, put};
 ghost use Rattle.heap.specs.Lent.{within, loaded, stored};
 use crate::Load;

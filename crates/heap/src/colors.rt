@@ -1,8 +1,8 @@
 // The color table: lookup by shift, what a check tests, and painting.
 ghost use mathlib.Core.Path.{_≡_};
-ghost use Prim.Native.Nat.{_+_, _≤_, _/_};
-ghost use lib.ListN.{length, getD};
-ghost use Rattle.heap.specs.Memory.{memorySize, slot, colorAt, hasColor, everyByte, paint};
+ghost use Prim.Native.Nat.{_+_, _≤_};
+ghost use lib.ListN.{length};
+ghost use Rattle.heap.specs.Memory.{slot, colorAt, hasColor, everyByte, paint};
 ghost use Rattle.heap.specs.Lent.{painted};
 use crate::MEMORY;
 use crate::bytes::fill;

@@ -2,8 +2,8 @@
 ghost use mathlib.Core.Path.{_≡_};
 ghost use Prim.Native.Nat.{_+_, _-_, _≤_, _<_, _^_};
 ghost use lib.ListN.{length};
-ghost use Rattle.heap.specs.Memory.{memorySize, tableSize, paint};
-ghost use Rattle.heap.specs.Heap.{Block, endSlot, blockAt, walk, putHeader};
+ghost use Rattle.heap.specs.Memory.{memorySize, paint};
+ghost use Rattle.heap.specs.Heap.{endSlot, walk, putHeader};
 ghost use Rattle.heap.specs.Lent.{released};
 ghost use Rattle.heap.specs.Search.{spareOf, spareAt, startOf, liveIn, wholeOf, Joining};
 use crate::END;

@@ -2,8 +2,7 @@
 ghost use mathlib.Core.Path.{_≡_};
 ghost use Prim.Native.Nat.{_+_, _≤_, _%_, _<_};
 ghost use lib.ListN.{length};
-ghost use lib.Dec.{T};
-ghost use Rattle.heap.specs.Heap.{Block, blockAt, sound, putHeader};
+ghost use Rattle.heap.specs.Heap.{sound, putHeader};
 ghost use Rattle.heap.specs.Lent.{started};
 use crate::END;
 use crate::HEAP;

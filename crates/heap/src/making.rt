@@ -4,7 +4,7 @@ ghost use Prim.Native.Nat.{_+_, _≤_};
 ghost use lib.ListN.{length};
 ghost use Rattle.files.specs.View.{extent};
 ghost use Rattle.heap.specs.Memory.{memorySize, tableSize, paint};
-ghost use Rattle.heap.specs.Heap.{Block, Made, endSlot, blockAt, walk, handOut, takeBlock, paintMade};
+ghost use Rattle.heap.specs.Heap.{Made, endSlot, blockAt, walk, handOut, takeBlock, paintMade};
 ghost use Rattle.heap.specs.Lent.{allocated};
 ghost use Rattle.heap.specs.Search.{firstOf, fitIn, Fitting};
 use crate::Allocation;

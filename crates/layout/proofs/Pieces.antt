@@ -1,19 +1,19 @@
 -- Lists that are tabulated, and what the pieces of a layout add up to, one object at a time.
 use Prim.Native.Nat.{ℕ, zero, suc, _+_, _-_, _≤_, _<_}
-use mathlib.Core.Path.{_≡_, refl, sym, ap, ap₂, _∙_, subst}
-use mathlib.Core.Bool.{Bool, true, false}
+use mathlib.Core.Path.{_≡_, refl, sym, ap, ap₂, _∙_}
+use mathlib.Core.Bool.{true}
 use mathlib.Core.List.{List, [], _∷_, _++_, append-assoc, map}
 use native.Mathlib.Nat.{not-suc-le-zero, le-of-suc-le-suc}
 use native.Mathlib.Numerals.{add-one}
 use native.Mathlib.Omega.{arith}
-use lib.ListN.{length, getD, set, take, drop, replicate, length-append, length-map, List·getD-append, List·getD-map}
+use lib.ListN.{length, getD, set, take, replicate, length-append, length-map, List·getD-append, List·getD-map}
 use lib.Seq.{set-at, ext-getD}
 use lib.Dec.{eqb}
 use borrow.Author.Tests.{le-leb}
 use Rattle.files.specs.Held.{tabulate, filled}
 use Rattle.files.specs.declared.Object.{Object}
 use Rattle.layout.specs.declared.Layout.{Layout}
-use Rattle.layout.specs.Layout.{Piece, total, safeSpace, unsafeSpace, unsafeFrom, endOf, startOf, placeFor, layoutOf, piecesIn, piecesOf, pieceOf, pieceAt, counted}
+use Rattle.layout.specs.Layout.{Piece, total, safeSpace, unsafeSpace, unsafeFrom, startOf, placeFor, layoutOf, piecesIn, piecesOf, pieceOf, pieceAt, counted}
 
 module _ {A : Type 0} (f : ℕ → A) where
   pub length-tabulate : (from n : ℕ) → length (tabulate f from n) ≡ n
@@ -47,7 +47,8 @@ pub filled-more : (n : ℕ) (xs : List ℕ) (v : ℕ) → length xs < n → set 
 unfolding filled
 filled-more n xs v h = go (n - length xs) refl
   where
-    go : (k : ℕ) → n - length xs ≡ k → set (xs ++ replicate (n - length xs) 0) (length xs) v ≡ (xs ++ (v ∷ [])) ++ replicate (n - length (xs ++ (v ∷ []))) 0
+    go : (k : ℕ) → n - length xs ≡ k → set (xs ++ replicate (n - length xs) 0) (length xs) v ≡ (xs ++ (v ∷ [])) ++ replicate
+        (n - length (xs ++ (v ∷ []))) 0
     go zero e = absurd (omega arith)
     go (suc k) e =
         let left : n - length (xs ++ (v ∷ [])) ≡ k = omega (arith, length-append xs (v ∷ [])) in
@@ -62,10 +63,12 @@ total-more space (x ∷ os) o = omega (arith, total-more space os o)
 
 module _ (f : ℕ → Piece) where
   -- one object more, as a loop adds it
-  pub sum-more : (space : Piece → ℕ) (g sum added : ℕ) → sum ≡ total space (tabulate f 0 g) → added ≡ space (f g) → sum + added ≡ total space (tabulate f 0 (g + 1))
+  pub sum-more : (space : Piece → ℕ) (g sum added : ℕ) → sum ≡ total space (tabulate f 0 g) → added ≡ space (f g)
+      → sum + added ≡ total space (tabulate f 0 (g + 1))
   sum-more space g sum added e₁ e₂ =
       let here : f (0 + g) ≡ f g = ap f (omega arith) in
-      ap₂ (λ x y. x + y) e₁ (e₂ ∙ sym (ap space here)) ∙ sym (ap (total space) (tabulate-more f 0 g) ∙ total-more space (tabulate f 0 g) (f (0 + g)))
+      ap₂ (λ x y. x + y) e₁ (e₂ ∙ sym (ap space here)) ∙ sym
+      (ap (total space) (tabulate-more f 0 g) ∙ total-more space (tabulate f 0 g) (f (0 + g)))
 
 -- ---- the loop that places the objects
 
@@ -81,7 +84,8 @@ module _ (f : ℕ → Piece) (objects : ℕ) where
     pub filling : starts ≡ filled 400 0 (tabulate (startOf pieces) 0 g)
 
   start-is : (g : ℕ) → g < objects
-      → startOf pieces g ≡ placeFor (f g .safe) (8 + total safeSpace (tabulate f 0 g)) (unsafeFrom pieces + total unsafeSpace (tabulate f 0 g))
+      → startOf pieces g ≡ placeFor (f g .safe) (8 + total safeSpace (tabulate f 0 g))
+      (unsafeFrom pieces + total unsafeSpace (tabulate f 0 g))
   unfolding startOf
   start-is g h =
       let here : 0 + g ≡ g = omega arith in
@@ -141,19 +145,22 @@ getD-field field [] g d h = absurd (not-suc-le-zero h)
 getD-field field (x ∷ xs) zero d h = refl
 getD-field field (x ∷ xs) (suc g) d h = getD-field field xs g d (le-of-suc-le-suc h)
 
-getD-filled : {A : Type 0} (n : ℕ) (field : A → ℕ) (xs : List A) (g : ℕ) (d : A) → g < length xs → getD (filled n 0 (map field xs)) g 0 ≡ field (getD xs g d)
+getD-filled : {A : Type 0} (n : ℕ) (field : A → ℕ) (xs : List A) (g : ℕ) (d : A) → g < length xs → getD
+    (filled n 0 (map field xs)) g 0 ≡ field (getD xs g d)
 unfolding filled
 getD-filled n field xs g d h =
     List·getD-append (map field xs) _ 0 g (omega (arith, length-map xs field)) ∙ getD-field field xs g d h
 
 -- the pieces of a file's objects, as a reader holds them
 pub pieces-held : (os : List Object) → length os ≤ 400
-    → piecesIn (filled 400 0 (map (λ o. o .kind) os)) (filled 400 0 (map (λ o. o .size) os)) (filled 400 0 (map (λ o. o .color) os)) (length os) ≡ piecesOf os
+    → piecesIn (filled 400 0 (map (λ o. o .kind) os)) (filled 400 0 (map (λ o. o .size) os))
+    (filled 400 0 (map (λ o. o .color) os)) (length os) ≡ piecesOf os
 unfolding piecesIn
 pieces-held os most =
     let n : counted (length os) ≡ length os = rw (le-leb (length os) 400 most, counted) refl in
     ap (tabulate (pieceAt kinds sizes colors) 0) n
-    ∙ ext-getD blank (tabulate (pieceAt kinds sizes colors) 0 (length os)) (map pieceOf os) (length-tabulate _ 0 (length os) ∙ sym (length-map os pieceOf)) each
+    ∙ ext-getD blank (tabulate (pieceAt kinds sizes colors) 0 (length os)) (map pieceOf os)
+    (length-tabulate _ 0 (length os) ∙ sym (length-map os pieceOf)) each
   where
     kinds : List ℕ
     kinds = filled 400 0 (map (λ o. o .kind) os)
@@ -170,7 +177,8 @@ pieces-held os most =
     blank : Piece
     blank = pieceOf none
 
-    each : (g : ℕ) → g < length (tabulate (pieceAt kinds sizes colors) 0 (length os)) → getD (tabulate (pieceAt kinds sizes colors) 0 (length os)) g blank ≡ getD (map pieceOf os) g blank
+    each : (g : ℕ) → g < length (tabulate (pieceAt kinds sizes colors) 0 (length os)) → getD
+        (tabulate (pieceAt kinds sizes colors) 0 (length os)) g blank ≡ getD (map pieceOf os) g blank
     each g h =
         let l : g < length os = omega (arith, length-tabulate (pieceAt kinds sizes colors) 0 (length os)) in
         let here : 0 + g ≡ g = omega arith in

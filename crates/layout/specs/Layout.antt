@@ -1,5 +1,5 @@
 -- 01, "Memory and table": where the globals stand.
-use Prim.Native.Nat.{ℕ, zero, suc, _+_}
+use Prim.Native.Nat.{ℕ, _+_}
 use mathlib.Core.List.{List, [], _∷_, map}
 use mathlib.Core.Bool.{Bool, true, false}
 use lib.ListN.{length, getD, take}
@@ -55,11 +55,12 @@ fits os = leb (endOf os) 28672
 
 -- ---- the layout of objects that are held in arrays
 
--- the first objects of the arrays, at most 400
+-- object g of the arrays
 abbrev pub pieceAt : (kinds sizes colors : List ℕ) → (g : ℕ) → Piece
 pieceAt kinds sizes colors g =
     record { kind = getD kinds g 0; size = getD sizes g 0; safe = eqb (getD colors g 0) 0 }
 
+-- the arrays hold no more than 400
 abbrev pub counted : (objects : ℕ) → ℕ
 counted objects = elim (leb objects 400) [ true ↦ objects | false ↦ 400 ]
 

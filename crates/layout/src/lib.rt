@@ -4,12 +4,10 @@
 // behind it. A safe object is one of color 0.
 ghost use mathlib.Core.Path.{_≡_};
 ghost use Prim.Native.Nat.{_+_, _*_, _≤_, _<_};
-ghost use mathlib.Core.List.{List};
 ghost use lib.Dec.{eqb};
-ghost use lib.ListN.{length, getD, take};
 ghost use Rattle.files.specs.View.{extent};
 ghost use Rattle.files.specs.Held.{tabulate};
-ghost use Rattle.layout.specs.Layout.{Piece, pieceAt, piecesIn, layoutOf, safeSpace, unsafeSpace, total, unsafeFrom, placeFor, counted};
+ghost use Rattle.layout.specs.Layout.{pieceAt, piecesIn, layoutOf, safeSpace, unsafeSpace, total, unsafeFrom, placeFor, counted};
 
 // The start of each object, 0 for those that are not there, and where the last guard ends.
 pub struct Layout {

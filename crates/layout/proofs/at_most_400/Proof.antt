@@ -1,17 +1,14 @@
-use Rattle.layout.specs.Layout.{counted}
+-- `layout::at_most_400` meets its contract. The test is the one of `counted`.
 use mathlib.Core.Path.{refl}
 use native.Mathlib.Omega.{arith}
 use borrow.Author.Tests.{le-leb, lt-leb}
+use Rattle.layout.specs.Layout.{counted}
 use Rattle.layout.proofs.at_most_400.Statement.{statement}
 use Rattle.layout.proofs.at_most_400.Tie as tie
-use Rattle.layout.proofs.at_most_400.Reads as reads
-use Rattle.layout.proofs.at_most_400.Lts as lts
 
--- src/lib.rt:108:1
 returns : tie.Need-returns
 returns c = (rw (le-leb (c .before .args .objects) 400 (c .if1 .taken), counted) refl, c .if1 .taken)
 
--- src/lib.rt:108:1
 returns-2 : tie.Need-returns-2
 returns-2 c = (rw (lt-leb (c .before .args .objects) 400 (c .if1 .left), counted) refl, omega arith)
 

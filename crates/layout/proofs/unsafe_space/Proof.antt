@@ -1,34 +1,35 @@
-use mathlib.Core.Path.{refl, ap}
-use Rattle.layout.specs.Layout.{unsafeSpace}
+-- `layout::unsafe_space` meets its contract. The tests are those of `unsafeSpace`, in its order.
 use Prim.Native.Nat.{_+_}
-use borrow.Author.Tests.{eq-eqb, ne-eqb}
+use mathlib.Core.Path.{refl, ap}
 use native.Mathlib.Omega.{arith}
 use borrow.Author.Needs.{needs}
+use borrow.Author.Tests.{eq-eqb, ne-eqb}
+use Rattle.layout.specs.Layout.{unsafeSpace}
 use Rattle.layout.proofs.unsafe_space.Statement.{statement}
 use Rattle.layout.proofs.unsafe_space.Tie as tie
-use Rattle.layout.proofs.unsafe_space.Reads as reads
-use Rattle.layout.proofs.unsafe_space.Lts as lts
-use Rattle.layout.proofs.extent_of.Reads as extent-of-reads
 
--- src/lib.rt:45:9
 returns : tie.Need-returns
 returns c = (rw (ne-eqb (c .before .args .kind) 0 (c .if1 .taken), unsafeSpace) refl, omega arith)
 
--- src/lib.rt:48:9
 returns-2 : tie.Need-returns-2
-returns-2 c = let s = c .before .before .args in (rw (eq-eqb (s .kind) 0 (c .before .if1 .left), eq-eqb (s .color) 0 (c .if2 .taken), unsafeSpace) refl, omega arith)
+returns-2 c = let s = c .before .before .args in (
+  rw
+      (eq-eqb (s .kind) 0 (c .before .if1 .left), eq-eqb (s .color) 0 (c .if2 .taken), unsafeSpace) refl,
+  omega arith,
+)
 
--- src/lib.rt:50:5
 extent-of-requires : tie.Need-extent-of-requires
 extent-of-requires c κs = search needs
 
--- src/lib.rt:50:5
 add-result : tie.Need-add-result
 add-result c = search needs
 
--- src/lib.rt:41:1
 returns-3 : tie.Need-returns-3
-returns-3 c = let s = c .before .before .before .args in (rw (eq-eqb (s .kind) 0 (c .before .before .if1 .left), ne-eqb (s .color) 0 (c .before .if2 .left), unsafeSpace) (ap (λ x. x + 8) (c .extent-of .ensures .0)), omega arith)
+returns-3 c = let s = c .before .before .before .args in (
+  rw (eq-eqb (s .kind) 0 (c .before .before .if1 .left), ne-eqb (s .color) 0 (c .before .if2 .left), unsafeSpace)
+      (ap (λ x. x + 8) (c .extent-of .ensures .0)),
+  omega arith,
+)
 
 pub unsafe-space-spec : {M : Type 1} → statement M
 unsafe-space-spec = tie.close (tie.spec returns returns-2 extent-of-requires add-result returns-3)

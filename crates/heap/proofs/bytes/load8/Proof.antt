@@ -1,26 +1,21 @@
-use native.Mathlib.Omega.{arith}
+-- `heap::bytes::load8` meets its contract. The test is the one of `loaded`.
 use mathlib.Core.Path.{sym, _∙_}
-use Rattle.heap.proofs.Parts.{load-inside, load-outside, number-1}
+use native.Mathlib.Omega.{arith}
 use borrow.Author.Needs.{needs}
+use Rattle.heap.proofs.Parts.{load-inside, load-outside, number-1}
 use Rattle.heap.proofs.bytes.load8.Statement.{statement}
 use Rattle.heap.proofs.bytes.load8.Tie as tie
-use Rattle.heap.proofs.bytes.load8.Reads as reads
-use Rattle.heap.proofs.bytes.load8.Lts as lts
-use Rattle.heap.proofs.bytes.wide.Reads as wide-reads
 
--- src/bytes.rt:64:26
 shared-slice-read-wide : tie.Need-shared-slice-read-wide
 shared-slice-read-wide c = search needs
 
--- src/bytes.rt:64:21
 wide-requires : tie.Need-wide-requires
 wide-requires c κs = search needs
 
--- src/bytes.rt:59:1
 returns : tie.Need-returns
-returns c = let s = c .before .before .before .before .args in load-inside 1 (s .memory .now) (s .address) _ (omega arith) (c .wide .ensures .0 ∙ sym (number-1 _ _))
+returns c = let s = c .before .before .before .before .args in load-inside 1 (s .memory .now) (s .address) _ (omega arith)
+    (c .wide .ensures .0 ∙ sym (number-1 _ _))
 
--- src/bytes.rt:59:1
 returns-2 : tie.Need-returns-2
 returns-2 c = let s = c .before .before .args in load-outside 1 (s .memory .now) (s .address) 0 (omega arith)
 

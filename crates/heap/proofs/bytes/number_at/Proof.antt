@@ -1,83 +1,64 @@
+-- `heap::bytes::number_at` meets its contract. The four bytes are those of `numberAt`, one by one.
 use native.Mathlib.Omega.{arith}
-use Rattle.heap.proofs.Parts.{number-4}
 use borrow.Author.Needs.{needs}
+use Rattle.heap.proofs.Parts.{number-4}
 use Rattle.heap.proofs.bytes.number_at.Statement.{statement}
 use Rattle.heap.proofs.bytes.number_at.Tie as tie
-use Rattle.heap.proofs.bytes.number_at.Reads as reads
-use Rattle.heap.proofs.bytes.number_at.Lts as lts
-use Rattle.heap.proofs.bytes.wide.Reads as wide-reads
 
--- src/bytes.rt:37:22
 shared-slice-read-wide : tie.Need-shared-slice-read-wide
 shared-slice-read-wide c = search needs
 
--- src/bytes.rt:37:9
 wide-requires : tie.Need-wide-requires
 wide-requires c κs = search needs
 
--- src/bytes.rt:38:30
 add-wide : tie.Need-add-wide
 add-wide c = search needs
 
--- src/bytes.rt:38:23
 shared-slice-read-wide-2 : tie.Need-shared-slice-read-wide-2
 shared-slice-read-wide-2 c = search needs
 
--- src/bytes.rt:38:9
 wide-requires-2 : tie.Need-wide-requires-2
 wide-requires-2 c κs = search needs
 
--- src/bytes.rt:39:29
 add-wide-2 : tie.Need-add-wide-2
 add-wide-2 c = search needs
 
--- src/bytes.rt:39:22
 shared-slice-read-wide-3 : tie.Need-shared-slice-read-wide-3
 shared-slice-read-wide-3 c = search needs
 
--- src/bytes.rt:39:9
 wide-requires-3 : tie.Need-wide-requires-3
 wide-requires-3 c κs = search needs
 
--- src/bytes.rt:40:30
 add-wide-3 : tie.Need-add-wide-3
 add-wide-3 c = search needs
 
--- src/bytes.rt:40:23
 shared-slice-read-wide-4 : tie.Need-shared-slice-read-wide-4
 shared-slice-read-wide-4 c = search needs
 
--- src/bytes.rt:40:9
 wide-requires-4 : tie.Need-wide-requires-4
 wide-requires-4 c κs = search needs
 
--- src/bytes.rt:41:44
 mul-result : tie.Need-mul-result
 mul-result c = search needs
 
--- src/bytes.rt:41:36
 add-result : tie.Need-add-result
 add-result c = search needs
 
--- src/bytes.rt:41:29
 mul-result-2 : tie.Need-mul-result-2
 mul-result-2 c = search needs
 
--- src/bytes.rt:41:20
 add-result-2 : tie.Need-add-result-2
 add-result-2 c = search needs
 
--- src/bytes.rt:41:13
 mul-result-3 : tie.Need-mul-result-3
 mul-result-3 c = search needs
 
--- src/bytes.rt:41:5
 add-result-3 : tie.Need-add-result-3
 add-result-3 c = search needs
 
--- src/bytes.rt:33:1
 returns : tie.Need-returns
-returns c = let s = c .before .before .before .before .before .before .before .before .before .args in omega (arith, number-4 (s .memory .now) (s .at))
+returns c = let s = c .before .before .before .before .before .before .before .before .before .args in omega
+    (arith, number-4 (s .memory .now) (s .at))
 
 pub number-at-spec : {M : Type 1} → statement M
 number-at-spec =

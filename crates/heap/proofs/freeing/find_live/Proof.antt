@@ -1,78 +1,66 @@
-use Rattle.heap.proofs.Walks.{Way, Sound, blockOf, way-starts, way-done, way-stops, way-goes, says, live-step, spare-below}
-use Rattle.heap.specs.Search.{liveIn, startIn}
-use Rattle.heap.specs.Heap.{endSlot, heapStart, walk}
-use borrow.Author.Tests.{not-true, not-false}
-use native.Mathlib.Omega.{arith}
-use mathlib.Core.Path.{_≡_, refl, sym, ap, _∙_}
+-- `heap::freeing::find_live` meets its contract. The invariant: where the joined block starts as found so
+-- far, taken on over the walk that is left, is what is to be found (`Way` of Walks); and what the block
+-- before adds lies inside the heap.
 use Prim.Native.Nat.{_+_, _-_, _≤_, _<_}
+use mathlib.Core.Path.{sym, _∙_}
+use native.Mathlib.Omega.{arith}
+use borrow.Author.Tests.{not-true, not-false}
+use Rattle.heap.specs.Heap.{endSlot, heapStart, walk}
+use Rattle.heap.specs.Search.{liveIn, startIn}
+use Rattle.heap.proofs.Walks.{Way, Sound, blockOf, way-starts, way-done, way-stops, way-goes, says, live-step, spare-below}
 use Rattle.heap.proofs.freeing.find_live.Statement.{statement}
 use Rattle.heap.proofs.freeing.find_live.Tie as tie
-use Rattle.heap.proofs.freeing.find_live.Reads as reads
-use Rattle.heap.proofs.freeing.find_live.Lts as lts
-use Rattle.heap.proofs.bytes.number_at.Reads as number-at-reads
-use Rattle.heap.proofs.freeing.spare_of.Reads as spare-of-reads
-use Rattle.heap.proofs.freeing.start_of.Reads as start-of-reads
-use Rattle.heap.proofs.headers.is_sound.Reads as is-sound-reads
 
 abbrev Inv-loop : tie.InvT-loop
-Inv-loop memory address start₀ spare₀ at₀ start spare at = Way memory at (liveIn start spare address) (liveIn 0 0 address (walk memory)) × (spare + heapStart ≤ at)
+Inv-loop memory address start₀ spare₀ at₀ start spare at = Way memory at (liveIn start spare address)
+    (liveIn 0 0 address (walk memory)) × (spare + heapStart ≤ at)
 
 abbrev μ-loop : tie.MeasureT-loop
 μ-loop memory address start₀ spare₀ at₀ start spare at = endSlot - at
 
--- src/freeing.rt:55:5
 loop-holds : tie.Need-loop-holds Inv-loop μ-loop
 loop-holds c = (way-starts _ _, omega arith)
 
--- src/freeing.rt:56:20
 number-at-requires : tie.Need-number-at-requires Inv-loop μ-loop
 number-at-requires c κs = omega (arith, c .before .loop .inv .0 .high)
 
--- src/freeing.rt:56:20
 cast-size : tie.Need-cast-size Inv-loop μ-loop
 cast-size c = omega arith
 
--- src/freeing.rt:57:13
 is-sound-requires : tie.Need-is-sound-requires Inv-loop μ-loop
 is-sound-requires c κs = omega arith
 
--- src/freeing.rt:58:13
 returns : tie.Need-returns Inv-loop μ-loop
-returns c = way-stops (c .before .before .before .before .loop .inv .0) (c .before .before .number-at .result) (c .before .before .before .loop-test .taken) (c .before .before .number-at .ensures) (sym (c .before .is-sound .ensures) ∙ not-true _ (c .if1 .taken))
+returns c = way-stops (c .before .before .before .before .loop .inv .0) (c .before .before .number-at .result)
+    (c .before .before .before .loop-test .taken) (c .before .before .number-at .ensures)
+    (sym (c .before .is-sound .ensures) ∙ not-true _ (c .if1 .taken))
 
--- src/freeing.rt:60:38
 add-number-at : tie.Need-add-number-at Inv-loop μ-loop
 add-number-at c = omega arith
 
--- src/freeing.rt:60:13
 number-at-requires-2 : tie.Need-number-at-requires-2 Inv-loop μ-loop
 number-at-requires-2 c κs = omega arith
 
--- src/freeing.rt:61:9
 start-of-requires : tie.Need-start-of-requires Inv-loop μ-loop
 start-of-requires c κs = (omega (arith, c .before .before .before .before .before .loop .inv .1), c .before .before .before .before .before .loop .inv .0 .high)
 
--- src/freeing.rt:62:9
 spare-of-requires : tie.Need-spare-of-requires Inv-loop μ-loop
 spare-of-requires c κs = omega arith
 
--- src/freeing.rt:63:14
 add-at : tie.Need-add-at Inv-loop μ-loop
 add-at c = omega arith
 
--- src/freeing.rt:63:14
 add-at-2 : tie.Need-add-at-2 Inv-loop μ-loop
 add-at-2 c = omega arith
 
--- src/freeing.rt:55:5
 loop-less : tie.Need-loop-less Inv-loop μ-loop
 loop-less c = let w = c .before .before .before .before .before .before .before .loop in
     let size = c .before .before .before .before .before .number-at in
     let below : w .at < endSlot = c .before .before .before .before .before .before .loop-test .taken in
-    let known : Sound (w .at) (size .result) = says (w .inv .0) (size .result) below (size .ensures) (sym (c .before .before .before .before .is-sound .ensures) ∙ not-false _ (c .before .before .before .if1 .left)) in
+    let known : Sound (w .at) (size .result) = says (w .inv .0) (size .result) below (size .ensures)
+    (sym (c .before .before .before .before .is-sound .ensures) ∙ not-false _ (c .before .before .before .if1 .left)) in
     omega arith
 
--- src/freeing.rt:55:5
 loop-again : tie.Need-loop-again Inv-loop μ-loop
 loop-again c = let w = c .before .before .before .before .before .before .before .loop in
     let size = c .before .before .before .before .before .number-at in
@@ -85,7 +73,6 @@ loop-again c = let w = c .before .before .before .before .before .before .before
       omega (arith, spared, w .inv .0 .low),
     )
 
--- src/freeing.rt:48:1
 returns-2 : tie.Need-returns-2 Inv-loop μ-loop
 unfolding startIn
 returns-2 c = way-done (c .before .loop .inv .0) (c .loop-test .left)

@@ -1,27 +1,21 @@
-use Rattle.heap.proofs.Blocks.{not-whole, too-short, by-end}
+-- `heap::headers::is_sound` meets its contract. The tests are those of `sound`, in its order.
 use borrow.Author.Needs.{needs}
+use Rattle.heap.proofs.Blocks.{not-whole, too-short, by-end}
 use Rattle.heap.proofs.headers.is_sound.Statement.{statement}
 use Rattle.heap.proofs.headers.is_sound.Tie as tie
-use Rattle.heap.proofs.headers.is_sound.Reads as reads
-use Rattle.heap.proofs.headers.is_sound.Lts as lts
 
--- src/headers.rt:30:9
 returns : tie.Need-returns
 returns c = not-whole _ _ (c .if1 .taken)
 
--- src/headers.rt:33:9
 returns-2 : tie.Need-returns-2
 returns-2 c = too-short _ _ (c .before .if1 .left) (c .if2 .taken)
 
--- src/headers.rt:35:5
 add-result : tie.Need-add-result
 add-result c = search needs
 
--- src/headers.rt:35:5
 add-result-2 : tie.Need-add-result-2
 add-result-2 c = search needs
 
--- src/headers.rt:25:1
 returns-3 : tie.Need-returns-3
 returns-3 c = by-end _ _ (c .before .if1 .left) (c .if2 .left)
 

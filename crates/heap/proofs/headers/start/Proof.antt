@@ -1,29 +1,22 @@
-use Rattle.heap.proofs.Blocks.{start-exact, start-other}
+-- `heap::headers::start` meets its contract. All zero, then one header.
 use borrow.Author.Needs.{needs}
+use Rattle.heap.proofs.Blocks.{start-exact, start-other}
 use Rattle.heap.proofs.headers.start.Statement.{statement}
 use Rattle.heap.proofs.headers.start.Tie as tie
-use Rattle.heap.proofs.headers.start.Reads as reads
-use Rattle.heap.proofs.headers.start.Lts as lts
-use Rattle.heap.proofs.bytes.fill.Reads as fill-reads
-use Rattle.heap.proofs.headers.put_header.Reads as put-header-reads
 
--- src/headers.rt:43:9
 fill-requires : tie.Need-fill-requires
 fill-requires c κs = search needs
 
--- src/headers.rt:44:9
 put-header-requires : tie.Need-put-header-requires
 put-header-requires c κs = search needs
 
--- src/headers.rt:39:1
 same-length : tie.Need-same-length
 same-length c = search needs
 
--- src/headers.rt:39:1
 returns : tie.Need-returns
-returns c = start-exact _ _ _ (c .before .before .before .before .before .before .before .before .if1 .taken) (c .before .before .before .before .before .before .fill .ensures) (c .before .before .put-header .ensures)
+returns c = start-exact _ _ _ (c .before .before .before .before .before .before .before .before .if1 .taken)
+    (c .before .before .before .before .before .before .fill .ensures) (c .before .before .put-header .ensures)
 
--- src/headers.rt:39:1
 returns-2 : tie.Need-returns-2
 returns-2 c = start-other _ (c .if1 .left)
 

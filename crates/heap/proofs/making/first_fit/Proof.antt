@@ -1,18 +1,14 @@
-use Rattle.heap.specs.Search.{foundIn}
-use Rattle.heap.proofs.Walks.{Way, Sound, blockOf, way-starts, way-done, way-stops, way-goes, says, fit-step}
-use Rattle.heap.specs.Search.{fitIn}
-use Rattle.heap.specs.Heap.{endSlot, walk}
-use borrow.Author.Tests.{not-true, not-false}
-use native.Mathlib.Omega.{arith}
-use mathlib.Core.Path.{_≡_, refl, sym, ap, _∙_}
+-- `heap::making::first_fit` meets its contract. The invariant: what was found so far, taken on over the walk
+-- that is left, is what is to be found (`Way` of Walks). The measure is what is left up to the end slot.
 use Prim.Native.Nat.{_-_}
+use mathlib.Core.Path.{sym, _∙_}
+use native.Mathlib.Omega.{arith}
+use borrow.Author.Tests.{not-true, not-false}
+use Rattle.heap.specs.Heap.{endSlot, walk}
+use Rattle.heap.specs.Search.{foundIn, fitIn}
+use Rattle.heap.proofs.Walks.{Way, Sound, blockOf, way-starts, way-done, way-stops, way-goes, says, fit-step}
 use Rattle.heap.proofs.making.first_fit.Statement.{statement}
 use Rattle.heap.proofs.making.first_fit.Tie as tie
-use Rattle.heap.proofs.making.first_fit.Reads as reads
-use Rattle.heap.proofs.making.first_fit.Lts as lts
-use Rattle.heap.proofs.bytes.number_at.Reads as number-at-reads
-use Rattle.heap.proofs.headers.is_sound.Reads as is-sound-reads
-use Rattle.heap.proofs.making.first_of.Reads as first-of-reads
 
 abbrev Inv-loop : tie.InvT-loop
 Inv-loop memory want found₀ at₀ found at = Way memory at (fitIn found want) (fitIn 0 want (walk memory))
@@ -20,57 +16,54 @@ Inv-loop memory want found₀ at₀ found at = Way memory at (fitIn found want) 
 abbrev μ-loop : tie.MeasureT-loop
 μ-loop memory want found₀ at₀ found at = endSlot - at
 
--- src/making.rt:54:5
 loop-holds : tie.Need-loop-holds Inv-loop μ-loop
 loop-holds c = way-starts _ _
 
--- src/making.rt:55:20
 number-at-requires : tie.Need-number-at-requires Inv-loop μ-loop
 number-at-requires c κs = omega (arith, c .before .loop .inv .high)
 
--- src/making.rt:55:20
 cast-size : tie.Need-cast-size Inv-loop μ-loop
 cast-size c = omega arith
 
--- src/making.rt:56:13
 is-sound-requires : tie.Need-is-sound-requires Inv-loop μ-loop
 is-sound-requires c κs = omega arith
 
--- src/making.rt:57:13
 returns : tie.Need-returns Inv-loop μ-loop
-returns c = way-stops (c .before .before .before .before .loop .inv) (c .before .before .number-at .result) (c .before .before .before .loop-test .taken) (c .before .before .number-at .ensures) (sym (c .before .is-sound .ensures) ∙ not-true _ (c .if1 .taken))
+returns c = way-stops (c .before .before .before .before .loop .inv) (c .before .before .number-at .result)
+    (c .before .before .before .loop-test .taken) (c .before .before .number-at .ensures)
+    (sym (c .before .is-sound .ensures) ∙ not-true _ (c .if1 .taken))
 
--- src/making.rt:59:38
 add-number-at : tie.Need-add-number-at Inv-loop μ-loop
 add-number-at c = omega arith
 
--- src/making.rt:59:13
 number-at-requires-2 : tie.Need-number-at-requires-2 Inv-loop μ-loop
 number-at-requires-2 c κs = omega arith
 
--- src/making.rt:60:9
 first-of-requires : tie.Need-first-of-requires Inv-loop μ-loop
 first-of-requires c κs = tt
 
--- src/making.rt:61:14
 add-at : tie.Need-add-at Inv-loop μ-loop
 add-at c = omega arith
 
--- src/making.rt:61:14
 add-at-2 : tie.Need-add-at-2 Inv-loop μ-loop
 add-at-2 c = omega arith
 
--- src/making.rt:54:5
 loop-less : tie.Need-loop-less Inv-loop μ-loop
-loop-less c = let known : Sound (c .before .before .before .before .before .before .loop .at) (c .before .before .before .before .number-at .result) =
-    says (c .before .before .before .before .before .before .loop .inv) (c .before .before .before .before .number-at .result) (c .before .before .before .before .before .loop-test .taken) (c .before .before .before .before .number-at .ensures) (sym (c .before .before .before .is-sound .ensures) ∙ not-false _ (c .before .before .if1 .left)) in
+loop-less c = let known : Sound (c .before .before .before .before .before .before .loop .at)
+    (c .before .before .before .before .number-at .result) =
+    says (c .before .before .before .before .before .before .loop .inv) (c .before .before .before .before .number-at .result)
+    (c .before .before .before .before .before .loop-test .taken) (c .before .before .before .before .number-at .ensures)
+    (sym (c .before .before .before .is-sound .ensures) ∙ not-false _ (c .before .before .if1 .left)) in
     omega (arith, c .before .before .before .before .before .loop-test .taken)
 
--- src/making.rt:54:5
 loop-again : tie.Need-loop-again Inv-loop μ-loop
-loop-again c = way-goes (c .before .before .before .before .before .before .loop .inv) (c .before .before .before .before .number-at .result) (c .before .before .before .before .before .loop-test .taken) (c .before .before .before .before .number-at .ensures) (c .before .number-at2 .result) (c .before .number-at2 .ensures) (sym (c .before .before .before .is-sound .ensures) ∙ not-false _ (c .before .before .if1 .left)) _ (fit-step _ _ (blockOf (c .before .before .before .before .before .before .loop .at) (c .before .before .before .before .number-at .result) (c .before .number-at2 .result)) _ (c .first-of .ensures))
+loop-again c = way-goes (c .before .before .before .before .before .before .loop .inv)
+    (c .before .before .before .before .number-at .result) (c .before .before .before .before .before .loop-test .taken)
+    (c .before .before .before .before .number-at .ensures) (c .before .number-at2 .result) (c .before .number-at2 .ensures)
+    (sym (c .before .before .before .is-sound .ensures) ∙ not-false _ (c .before .before .if1 .left)) _
+    (fit-step _ _ (blockOf (c .before .before .before .before .before .before .loop .at)
+    (c .before .before .before .before .number-at .result) (c .before .number-at2 .result)) _ (c .first-of .ensures))
 
--- src/making.rt:48:1
 returns-2 : tie.Need-returns-2 Inv-loop μ-loop
 unfolding foundIn
 returns-2 c = way-done (c .before .loop .inv) (c .loop-test .left)

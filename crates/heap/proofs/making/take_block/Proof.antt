@@ -1,87 +1,65 @@
-use Rattle.heap.proofs.Taking.{taken-whole, taken-cut}
+-- `heap::making::take_block` meets its contract. Whole or cut, by the laws of Taking.
 use borrow.Author.Needs.{needs}
+use Rattle.heap.proofs.Taking.{taken-whole, taken-cut}
 use Rattle.heap.proofs.making.take_block.Statement.{statement}
 use Rattle.heap.proofs.making.take_block.Tie as tie
-use Rattle.heap.proofs.making.take_block.Reads as reads
-use Rattle.heap.proofs.making.take_block.Lts as lts
-use Rattle.heap.proofs.bytes.number_at.Reads as number-at-reads
-use Rattle.heap.proofs.colors.paint_slots.Reads as paint-slots-reads
-use Rattle.heap.proofs.headers.put_header.Reads as put-header-reads
-use Rattle.heap.proofs.making.hand_out.Reads as hand-out-reads
 
--- src/making.rt:106:16
 number-at-requires : tie.Need-number-at-requires
 number-at-requires c κs = search needs
 
--- src/making.rt:106:16
 cast-size : tie.Need-cast-size
 cast-size c = search needs
 
--- src/making.rt:107:15
 add-if1 : tie.Need-add-if1
 add-if1 c = search needs
 
--- src/making.rt:108:9
 hand-out-requires : tie.Need-hand-out-requires
 hand-out-requires c κs = search needs
 
--- src/making.rt:108:9
 same-length : tie.Need-same-length
 same-length c = search needs
 
--- src/making.rt:108:9
 same-length-2 : tie.Need-same-length-2
 same-length-2 c = search needs
 
--- src/making.rt:108:9
 returns : tie.Need-returns
 returns c = let s = c .before .before .before .before .before .before .before .before .before .before .before .before .args in
     let out = c .before .before .before .before .hand-out in
     taken-whole (s .memory .now) (s .table .now) (s .header) (s .want) (s .mark) (s .color) _ _ _ _
-    (c .before .before .before .before .before .before .before .before .number-at .ensures) (c .before .before .before .before .before .before .before .if1 .taken)
+    (c .before .before .before .before .before .before .before .before .number-at .ensures)
+    (c .before .before .before .before .before .before .before .if1 .taken)
     (out .ensures .0) (out .ensures .1 .0) (out .ensures .1 .1)
 
--- src/making.rt:110:16
 add-rest : tie.Need-add-rest
 add-rest c = search needs
 
--- src/making.rt:110:16
 add-rest-2 : tie.Need-add-rest-2
 add-rest-2 c = search needs
 
--- src/making.rt:111:16
 sub-left : tie.Need-sub-left
 sub-left c = search needs
 
--- src/making.rt:111:16
 sub-left-2 : tie.Need-sub-left-2
 sub-left-2 c = search needs
 
--- src/making.rt:112:30
 cast-put-header : tie.Need-cast-put-header
 cast-put-header c = search needs
 
--- src/making.rt:112:5
 put-header-requires : tie.Need-put-header-requires
 put-header-requires c κs = search needs
 
--- src/making.rt:113:5
 paint-slots-requires : tie.Need-paint-slots-requires
 paint-slots-requires c κs = search needs
 
--- src/making.rt:114:5
 hand-out-requires-2 : tie.Need-hand-out-requires-2
 hand-out-requires-2 c κs = search needs
 
--- src/making.rt:93:1
 same-length-3 : tie.Need-same-length-3
 same-length-3 c = search needs
 
--- src/making.rt:93:1
 same-length-4 : tie.Need-same-length-4
 same-length-4 c = search needs
 
--- src/making.rt:93:1
 returns-2 : tie.Need-returns-2
 returns-2 c = let s = c .before .before .before .before .before .before .before .before .before .before .before .before .before .before .before .before .before .before .before .before .args in
     let out = c .before .before .before .before .hand-out2 in
