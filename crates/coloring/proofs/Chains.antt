@@ -4,15 +4,15 @@
 -- set and the classes that it meets into one list: every class holds only chained objects (`within`).
 -- The other way round each set stays inside one class (`set-inside`), and no object is in two classes
 -- (`apart`), so being of one class goes on along a chain.
-use Prim.Native.Nat.{ℕ, zero, suc, _+_, _<_, _≤_}
+use Prim.Native.Nat.{ℕ, zero, suc, _<_}
 use native.Mathlib.Omega.{arith}
-use mathlib.Core.Path.{_≡_, refl, sym, _∙_, ap}
+use mathlib.Core.Path.{_≡_, refl}
 use mathlib.Core.Logic.{_⊎_, inl, inr, ⊎-elim}
 use mathlib.Core.List.{List, [], _∷_, _++_}
 use mathlib.Core.Bool.{Bool, true, false}
 use lib.ListN.{length, getD}
 use Rattle.coloring.specs.Class.{holds, some, holdsBoth, unsafeObject, Neighbours, Chain, last, link, meets, join, classesOf, sameClass}
-use Rattle.coloring.proofs.Members.{no-test, test-false, both-left, both-right, both-true, some-here, some-there, some-cases, some-nil, some-at, some-map, unsafe-left, unsafe-right, unsafe-both, holds-left, holds-right, holds-append, meets-at, at-meets}
+use Rattle.coloring.proofs.Members.{no-test, test-false, both-left, both-right, both-true, some-here, some-there, some-cases, some-nil, some-at, some-map, unsafe-left, unsafe-right, holds-left, holds-right, holds-append, meets-at, at-meets}
 
 -- ---- chains
 
@@ -214,7 +214,7 @@ class-is-chain sets x y = (class-chain sets x y, chain-class sets x y)
 
 -- ---- unsafe objects are those that have a class
 
-some-place : (t : List ℕ → Bool) (ss : List (List ℕ)) → some t ss ≡ true → (at : ℕ) × (at < length ss) × (t (getD ss at []) ≡ true)
+pub some-place : (t : List ℕ → Bool) (ss : List (List ℕ)) → some t ss ≡ true → (at : ℕ) × (at < length ss) × (t (getD ss at []) ≡ true)
 some-place t [] h = some-nil t h
 some-place t (s ∷ ss) h =
     ⊎-elim

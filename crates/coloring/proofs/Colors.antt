@@ -7,18 +7,16 @@
 -- numbers is at most the other, because a smaller one would already stand below.
 use Prim.Native.Nat.{ℕ, zero, suc, _+_, _-_, _<_, _≤_}
 use native.Mathlib.Omega.{arith}
-use native.Mathlib.Numerals.{add-one}
 use mathlib.Core.Path.{_≡_, refl, sym, _∙_, ap}
-use mathlib.Core.Logic.{_⊎_, inl, inr, ⊎-elim, _≢_}
-use mathlib.Core.List.{List, [], _∷_, _++_}
+use mathlib.Core.Logic.{_≢_}
+use mathlib.Core.List.{List}
 use mathlib.Core.Bool.{Bool, true, false}
-use lib.ListN.{length, getD}
-use lib.Dec.{eqb, ltb, leb}
-use borrow.Author.Tests.{eqb-true, eq-eqb, ne-eqb, ltb-true, ltb-false, leb-true, leb-false}
-use Rattle.coloring.specs.Class.{holds, unsafeObject, Neighbours, Chain, last, link, sameClass}
-use Rattle.coloring.specs.Color.{Legal, lowestFrom, lowest, first, classesBelow, colorOf, IsLowest, InOrder, Numbering}
-use Rattle.coloring.proofs.Members.{no-test, test-false}
-use Rattle.coloring.proofs.Chains.{class-is-chain, set-class, class-trans, class-sym, class-self, class-unsafe, class-row}
+use lib.Dec.{eqb, ltb}
+use borrow.Author.Tests.{eqb-true, eq-eqb, ltb-true, ltb-false}
+use Rattle.coloring.specs.Class.{unsafeObject, Chain, last, link, sameClass}
+use Rattle.coloring.specs.Color.{Legal, lowestFrom, lowest, first, classesBelow, colorOf}
+use Rattle.coloring.proofs.Members.{no-test}
+use Rattle.coloring.proofs.Chains.{class-is-chain, set-class, class-trans, class-sym, class-self, class-unsafe}
 
 module _ (sets : List (List ℕ)) where
   -- ---- the lowest object of a class

@@ -1,11 +1,31 @@
--- What `coloring` promises of its definitions, and which law carries it:
--- a computed class is a chain (`Chains.class-is-chain`); 01's coloring is legal and no legal one tells
--- more objects apart (`Colors.coloring-is-legal`, `Colors.none-finer`); colors are equal exactly along
--- chains (`Colors.color-is-chain`); numbers go by the lowest object, and a routine has one coloring
--- (`Order.colors-in-order`, `Order.one-coloring`); the objects' own colors play no part
--- (`Tinted.uncolored-sets`).
+-- Coloring: what the crate promises, and what carries it.
+--
+-- On the definitions, for every list of sets:
+-- - two objects are of one computed class exactly when a chain joins them (Chains, class-is-chain);
+-- - 01's colors are legal, no legal coloring tells more objects apart, and equal colors above 0 mean a
+--   chain (Colors, coloring-is-legal, none-finer, color-is-chain);
+-- - they are numbered in the order of the lowest objects, and no other numbers are so (Order,
+--   colors-in-order, one-coloring);
+-- - a routine's unsafe sets do not depend on its objects' colors (Tinted, uncolored-sets).
+--
+-- In code: what an instruction is follows from its opcode number (Natures), and read_colored answers
+-- 01's coloring of what was read, or its refusal, which is 8 exactly for more than 254 classes. The
+-- functions compute on arrays what specs/Labels says, turn by turn (Turns). That this is the coloring
+-- is one law, Agrees.paints-routine: each step of the computation joins only what the sets chain and
+-- parts nothing (Joining, Spans, Marking), labels become colors (Labelled), and the arrays hold all of a
+-- routine that was read (Bounds, Arrays). Answer ties it to the reading.
 pub mod Members
 pub mod Chains
 pub mod Colors
 pub mod Order
 pub mod Tinted
+pub mod Natures
+pub mod Turns
+pub mod Joining
+pub mod Spans
+pub mod Marking
+pub mod Labelled
+pub mod Bounds
+pub mod Arrays
+pub mod Agrees
+pub mod Answer

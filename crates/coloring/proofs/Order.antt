@@ -7,16 +7,15 @@
 use Prim.Native.Nat.{ℕ, zero, suc, _+_, _-_, _<_, _≤_}
 use native.Mathlib.Omega.{arith}
 use mathlib.Core.Path.{_≡_, refl, sym, _∙_, ap}
-use mathlib.Core.Logic.{_⊎_, inl, inr, ⊎-elim}
+use mathlib.Core.Logic.{_⊎_, inl, inr}
 use mathlib.Core.List.{List}
 use mathlib.Core.Bool.{Bool, true, false}
 use lib.Dec.{eqb, ltb}
 use borrow.Author.Tests.{eqb-true, eqb-false, ltb-true, ltb-false}
-use Rattle.coloring.specs.Class.{unsafeObject, Chain, sameClass}
+use Rattle.coloring.specs.Class.{unsafeObject, Chain}
 use Rattle.coloring.specs.Color.{lowest, first, classesBelow, colorOf, IsLowest, InOrder, Numbering}
-use Rattle.coloring.proofs.Members.{no-test}
 use Rattle.coloring.proofs.Chains.{class-is-chain}
-use Rattle.coloring.proofs.Colors.{lowest-upto, lowest-in, lowest-least, lowest-unsafe, lowest-same, first-one, first-of, count-rises, color-safe, color-unsafe, color-low, color-is-chain}
+use Rattle.coloring.proofs.Colors.{lowest-upto, lowest-in, lowest-least, first-one, first-of, count-rises, color-safe, color-unsafe, color-low, color-is-chain}
 
 module _ (sets : List (List ℕ)) where
   -- ---- the lowest object, as a fact and as a number

@@ -1,7 +1,8 @@
 -- Which instructions are unsafe, and with which sets, does not depend on the objects' colors.
-use Prim.Native.Nat.{ℕ, zero, suc, _+_}
-use mathlib.Core.Path.{_≡_, refl, sym, _∙_, ap}
-use mathlib.Core.List.{List, [], _∷_, _++_}
+use Prim.Native.Nat.{ℕ, zero, suc, _+_, _<_}
+use native.Mathlib.Omega.{arith}
+use mathlib.Core.Path.{_≡_, refl, _∙_, ap}
+use mathlib.Core.List.{List, [], _∷_, map}
 use mathlib.Core.Bool.{Bool, true, false}
 use lib.ListN.{length, getD}
 use lib.Dec.{leb}
@@ -22,6 +23,24 @@ unfolding tinted
 tinted-size color from [] g = refl
 tinted-size color from (o ∷ os) zero = refl
 tinted-size color from (o ∷ os) (suc g) = tinted-size color (from + 1) os g
+
+pub tinted-kinds : (color : ℕ → ℕ) (from : ℕ) (os : List Object) → map (λ o. o .kind) (tinted color from os) ≡ map (λ o. o .kind) os
+unfolding tinted
+tinted-kinds color from [] = refl
+tinted-kinds color from (o ∷ os) = ap (λ (l : List ℕ). o .kind ∷ l) (tinted-kinds color (from + 1) os)
+
+pub tinted-sizes : (color : ℕ → ℕ) (from : ℕ) (os : List Object) → map (λ o. o .size) (tinted color from os) ≡ map (λ o. o .size) os
+unfolding tinted
+tinted-sizes color from [] = refl
+tinted-sizes color from (o ∷ os) = ap (λ (l : List ℕ). o .size ∷ l) (tinted-sizes color (from + 1) os)
+
+pub tinted-color : (color : ℕ → ℕ) (from : ℕ) (os : List Object) (i : ℕ) → i < length os → getD (map (λ o. o .color) (tinted color from os)) i 0 ≡ color (from + i)
+unfolding tinted
+tinted-color color from [] i h = absurd (omega arith)
+tinted-color color from (o ∷ os) zero h = let z : from ≡ from + 0 = omega arith in ap color z
+tinted-color color from (o ∷ os) (suc i) h =
+    let z : from + 1 + i ≡ from + suc i = omega arith in
+    tinted-color color (from + 1) os i (omega arith) ∙ ap color z
 
 abbrev unless : (safe : Bool) → List ℕ → List (List ℕ)
 unless safe set = elim safe [ true ↦ [] | false ↦ set ∷ [] ]

@@ -1,8 +1,8 @@
 -- 01, "Safe stores, classes, colors": legal colorings, and 01's own.
 use Prim.Native.Nat.{ℕ, zero, suc, _+_, _<_, _≤_}
 use mathlib.Core.Path.{_≡_}
-use mathlib.Core.List.{List, [], _∷_}
-use mathlib.Core.Bool.{Bool, true, false}
+use mathlib.Core.List.{List, []}
+use mathlib.Core.Bool.{true, false}
 use lib.ListN.{length, getD}
 use Rattle.coloring.specs.Class.{holds, unsafeObject, sameClass, Chain}
 
@@ -45,7 +45,8 @@ pub record IsLowest (sets : List (List ℕ)) (x : ℕ) : Type 0 where
   pub least : (y : ℕ) → Chain sets y x → x ≤ y
 
 -- "Classes get 2, 3, .. in the order of their lowest object number": the lowest object of a class has
--- a number above all that stand below it, and every number from 2 up to it occurs there
+-- a number from 2 up, above all that stand below it, and every number from 2 up to it occurs at or
+-- below it
 pub record InOrder (sets : List (List ℕ)) (number : ℕ → ℕ) : Type 0 where
   pub high : (x : ℕ) → IsLowest sets x → 2 ≤ number x
   pub rising : (x y : ℕ) → IsLowest sets x → y < x → number y < number x

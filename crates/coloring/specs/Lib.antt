@@ -1,4 +1,6 @@
 pub mod Unsafe
+pub mod Nature
 pub mod Class
 pub mod Color
 pub mod Colored
+pub mod Labels

@@ -1,9 +1,23 @@
--- What `files` promises of its definitions, and which law carries it: what is written for a good
--- program is read back as exactly that program (`RoundTrip.reads-back`); what is read is a good program
--- and the file is byte for byte its spelling (`RoundTrip.one-spelling`), so a program has one spelling;
--- both for each version by one law. The pieces: a number that stands in the file (`Stands`), an object,
--- an instruction by the table of opcodes, lists of them.
-pub mod Stands
+-- What `files` promises, and what carries it: any bytes are read as version 1 or 2, the whole program or the
+-- first refusal from left to right (`read_routine`, `read_program`: equations with `held (readFile ..)`).
+-- About the definitions, for the crates above: what is written for a good program is read back as exactly
+-- that program (`RoundTrip.reads-back`); what is read is a good program and the file is byte for byte its
+-- spelling (`RoundTrip.one-spelling`), so a program has one spelling; both for each version by one law.
+--
+-- The code: what judging a number answers (`Judging`), one object and one instruction (`OneObject`,
+-- `OneInstr`), the loops over them (`ObjectLoop`, `MemberLoop`, `SetLoop`, `CodeLoop`), arrays of which the
+-- first elements count (`Filled`), the stages of a file (`Stages`).
+mod Filled
+mod Judging
+mod OneObject
+mod ObjectLoop
+mod OneInstr
+mod CodeLoop
+mod MemberLoop
+mod SetLoop
+mod Parts
+mod Stages
+pub mod SpelledNumbers
 pub mod SpelledObjects
 pub mod SpelledInstructions
 pub mod SpelledLists

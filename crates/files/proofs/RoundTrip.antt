@@ -2,7 +2,7 @@
 -- written for it: one spelling for each program, in both versions by one law over the version.
 --
 -- The file is cut into its six pieces (version, count and objects, sets, count and instructions). Each
--- piece has its two laws in Stands, SpelledObjects, SpelledInstructions and SpelledLists; here they are put side by side, in
+-- piece has its two laws in SpelledNumbers, SpelledObjects, SpelledInstructions and SpelledLists; here they are put side by side, in
 -- the order of `readFile`'s stages.
 use Prim.Native.Nat.{ℕ, zero, suc, _+_, _^_, _<_, _≤_}
 use mathlib.Core.Path.{_≡_, refl, sym, ap, _∙_, subst, subst₂}
@@ -21,7 +21,7 @@ use Rattle.files.specs.declared.Instr.{Instr}
 use Rattle.files.specs.Program.{Program, Scope, hasSets, mostCode, longest, within, kindsOf}
 use Rattle.files.specs.Reading.{Parsed, got, Reading, whole, cursor, judged, readFile, afterVersion, afterObjectCount, afterObjects, afterSetCount, afterSets, afterCodeCount, afterCode, objectsFrom, setsFrom, codeFrom}
 use Rattle.files.specs.Writing.{spellFile, spellAll, spellObject, spellSet, spellSets, spellInstr, every, goodObject, goodSet, goodSets, goodInstr, goodProgram, scopeOf, both}
-use Rattle.files.proofs.Stands.{Stands, stands-nil, stands-append, stands-split, Judged, judged-of-read, read-of-judged}
+use Rattle.files.proofs.SpelledNumbers.{Stands, stands-nil, stands-append, stands-split, Judged, judged-of-read, read-of-judged}
 use Rattle.files.proofs.SpelledObjects.{both-true, both-left, both-right, within-bounds, within-true}
 use Rattle.files.proofs.SpelledInstructions.{Bounded}
 use Rattle.files.proofs.SpelledLists.{Several, objects-of-read, read-of-objects, sets-of-read, read-of-sets, code-of-read, read-of-code}

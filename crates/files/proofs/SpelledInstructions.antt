@@ -20,7 +20,7 @@ use Rattle.files.specs.Table.{rowOf, make, Parts, partsOf}
 use Rattle.files.specs.Program.{Scope, within, present, allowed, isKind, lastOpcode}
 use Rattle.files.specs.Reading.{cursor, judged, readInstr, afterOpcode, afterFirst, afterSecond, afterThird, operandAt}
 use Rattle.files.specs.Writing.{spellIf, spellParts, spellInstr, goodOperand, goodParts, goodInstr, both}
-use Rattle.files.proofs.Stands.{Stands, stands-append, stands-split, Judged, judged-of-read, read-of-judged, Optional, optional-of-read, read-of-optional}
+use Rattle.files.proofs.SpelledNumbers.{Stands, stands-append, stands-split, Judged, judged-of-read, read-of-judged, Optional, optional-of-read, read-of-optional}
 use Rattle.files.proofs.SpelledObjects.{both-true, both-left, both-right, within-bounds, within-true}
 
 -- ---- the table's rule, once: what holds of each number below n holds of all of them
@@ -182,7 +182,7 @@ kind-small kinds kind n h e = go (ltb n (length kinds)) refl e
 small-of-allowed : (scope : Scope) → Bounded scope → (kind : Operand) (n : ℕ) → allowed scope kind n ≡ true → n < 2 ^ 32
 small-of-allowed scope b Operand.None n e = omega (arith, eqb-true n 0 e)
 small-of-allowed scope b Operand.Temporary n e = omega (arith, ltb-true n 16 e)
-small-of-allowed scope b Operand.Number n e = ltb-true n (2 ^ 32) e
+small-of-allowed scope b Operand.Number n e = omega (arith, leb-true n 4294967295 e)
 small-of-allowed scope b Operand.Global n e = kind-small (scope .kinds) 0 n (b .kinds) e
 small-of-allowed scope b Operand.Site n e = kind-small (scope .kinds) 1 n (b .kinds) e
 small-of-allowed scope b Operand.Set n e = omega (arith, ltb-true n (scope .sets) e)

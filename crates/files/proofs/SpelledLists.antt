@@ -21,7 +21,7 @@ use Rattle.files.specs.declared.InstrRead.{InstrRead}
 use Rattle.files.specs.Program.{Scope, within}
 use Rattle.files.specs.Reading.{Parsed, got, cursor, judged, readObject, objectsFrom, readSet, afterMemberCount, membersFrom, setsFrom, readInstr, codeFrom}
 use Rattle.files.specs.Writing.{spellAll, spellObject, spellSet, spellInstr, every, goodObject, goodSet, goodInstr, rising, both}
-use Rattle.files.proofs.Stands.{Stands, stands-nil, stands-append, stands-split, Judged, judged-of-read, read-of-judged}
+use Rattle.files.proofs.SpelledNumbers.{Stands, stands-nil, stands-append, stands-split, Judged, judged-of-read, read-of-judged}
 use Rattle.files.proofs.SpelledObjects.{both-true, both-left, both-right, within-bounds, within-true, object-of-read, read-of-object}
 use Rattle.files.proofs.SpelledInstructions.{Bounded, instr-of-read, read-of-instr}
 

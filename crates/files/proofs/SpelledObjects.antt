@@ -15,7 +15,7 @@ use Rattle.files.specs.declared.ObjectRead.{ObjectRead}
 use Rattle.files.specs.Program.{within, isColor, hasColors}
 use Rattle.files.specs.Reading.{cursor, judged, readObject, afterKind, afterSize, afterColor, sizeAt, colorAt}
 use Rattle.files.specs.Writing.{spellIf, spellObject, goodObject, both}
-use Rattle.files.proofs.Stands.{Stands, stands-append, stands-split, Judged, judged-of-read, read-of-judged, goodIf, Optional, optional-of-read, read-of-optional}
+use Rattle.files.proofs.SpelledNumbers.{Stands, stands-append, stands-split, Judged, judged-of-read, read-of-judged, goodIf, Optional, optional-of-read, read-of-optional}
 
 -- ---- two tests at once
 

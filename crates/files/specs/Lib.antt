@@ -4,3 +4,4 @@ pub mod Reading
 pub mod Writing
 pub mod Held
 pub mod View
+pub mod Inside

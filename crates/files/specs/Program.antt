@@ -1,5 +1,5 @@
 -- What a file says: objects, sets and instructions; and what the versions differ in.
-use Prim.Native.Nat.{ℕ, _^_}
+use Prim.Native.Nat.{ℕ}
 use mathlib.Core.List.{List, [], _∷_, map}
 use mathlib.Core.Bool.{Bool, true, false}
 use lib.ListN.{length, getD}
@@ -72,7 +72,7 @@ present version Operand.Color = true
 abbrev pub allowed : Scope → Operand → ℕ → Bool
 allowed scope Operand.None n = eqb n 0
 allowed scope Operand.Temporary n = ltb n 16
-allowed scope Operand.Number n = ltb n (2 ^ 32)
+allowed scope Operand.Number n = leb n 4294967295
 allowed scope Operand.Global n = isKind (scope .kinds) 0 n
 allowed scope Operand.Site n = isKind (scope .kinds) 1 n
 allowed scope Operand.Set n = ltb n (scope .sets)

@@ -4,6 +4,12 @@
 // refusal from left to right.
 use numbers::Cursor;
 use numbers::Refusal;
+ghost use mathlib.Core.Path.{_≡_};
+ghost use Rattle.files.specs.Reading.{readFile};
+ghost use Rattle.files.specs.Held.{held};
+
+mod reading; // reading.rt: files are read
+mod table; // table.rt: the table of the opcodes, and the ranges of operands
 
 // What an operand of an instruction names, and so its range; `None` where there is no operand.
 pub enum Operand {
@@ -64,6 +70,13 @@ pub struct Object {
     pub color: u8,
 }
 
+// What the operands of an instruction may name, beside the objects' kinds.
+struct Scope {
+    version: u8,
+    sets: usize,
+    lines: usize,
+}
+
 // What reading one object answers.
 pub enum ObjectRead {
     Object(Object, Cursor),
@@ -114,4 +127,18 @@ pub enum Written {
     TooSmall,
     // No file says what is held, and no byte of the room was changed.
     NoProgram,
+}
+
+// Reads bytes as a file of version 1.
+pub fn read_routine(file: &[u8]) -> Loaded
+    ensures { λ r. ⌜ r ≡ held (readFile 1 (now (file .entry))) ⌝ }
+{
+    reading::read_file(file, 1)
+}
+
+// Reads bytes as a file of version 2.
+pub fn read_program(file: &[u8]) -> Loaded
+    ensures { λ r. ⌜ r ≡ held (readFile 2 (now (file .entry))) ⌝ }
+{
+    reading::read_file(file, 2)
 }

@@ -27,7 +27,6 @@ pub mod HeapHeaders
 pub mod HeapBlocks
 pub mod HeapAlloc
 pub mod HeapFree
-pub mod LayoutPlaces
 pub mod Stopping
 pub mod Recorded
 pub mod Good

@@ -1,0 +1,12 @@
+use Rattle.files.proofs.Filled.{filled-none}
+use Rattle.files.proofs.reading.blank_bytes.Statement.{statement}
+use Rattle.files.proofs.reading.blank_bytes.Tie as tie
+use Rattle.files.proofs.reading.blank_bytes.Reads as reads
+use Rattle.files.proofs.reading.blank_bytes.Lts as lts
+
+-- src/reading.rt:191:1
+returns : tie.Need-returns
+returns c = filled-none 400 0
+
+pub blank-bytes-spec : {M : Type 1} → statement M
+blank-bytes-spec = tie.close (tie.spec returns)

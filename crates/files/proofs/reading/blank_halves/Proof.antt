@@ -1,0 +1,12 @@
+use Rattle.files.proofs.Filled.{filled-none}
+use Rattle.files.proofs.reading.blank_halves.Statement.{statement}
+use Rattle.files.proofs.reading.blank_halves.Tie as tie
+use Rattle.files.proofs.reading.blank_halves.Reads as reads
+use Rattle.files.proofs.reading.blank_halves.Lts as lts
+
+-- src/reading.rt:197:1
+returns : tie.Need-returns
+returns c = filled-none 400 0
+
+pub blank-halves-spec : {M : Type 1} → statement M
+blank-halves-spec = tie.close (tie.spec returns)

@@ -1,0 +1,17 @@
+use borrow.Author.Tests.{le-leb, lt-leb}
+use Rattle.files.specs.Inside.{isMember}
+use Rattle.files.proofs.reading.is_member.Statement.{statement}
+use Rattle.files.proofs.reading.is_member.Tie as tie
+use Rattle.files.proofs.reading.is_member.Reads as reads
+use Rattle.files.proofs.reading.is_member.Lts as lts
+
+-- src/reading.rt:303:1
+returns : tie.Need-returns
+returns c = simp (le-leb _ _ (c .if1 .taken), isMember)
+
+-- src/reading.rt:303:1
+returns-2 : tie.Need-returns-2
+returns-2 c = simp (lt-leb _ _ (c .if1 .left), isMember)
+
+pub is-member-spec : {M : Type 1} → statement M
+is-member-spec = tie.close (tie.spec returns returns-2)

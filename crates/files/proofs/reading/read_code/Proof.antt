@@ -1,0 +1,106 @@
+use mathlib.Core.Path.{_≡_, sym, ap, refl, _∙_}
+use Prim.Native.Nat.{_-_}
+use native.Mathlib.Omega.{arith}
+use borrow.Author.Needs.{needs}
+use Rattle.files.specs.declared.Ended.{Ended}
+use Rattle.files.specs.Inside.{whyInstr, scopeOver}
+use Rattle.files.proofs.CodeLoop.{Filling, start, more, stops, ends}
+use Rattle.files.proofs.reading.read_code.Statement.{statement}
+use Rattle.files.proofs.reading.read_code.Tie as tie
+use Rattle.files.proofs.reading.read_code.Reads as reads
+use Rattle.files.proofs.reading.read_code.Lts as lts
+use Rattle.files.proofs.reading.blank_code.Reads as blank-code-reads
+use Rattle.files.proofs.reading.instr_at.Reads as instr-at-reads
+use Rattle.files.proofs.reading.why_instr.Reads as why-instr-reads
+
+abbrev Inv-loop : tie.InvT-loop
+Inv-loop file kinds scope lines code₀ next₀ i₀ code next i = (lines ≡ scope .lines) × Filling (scopeOver scope kinds) lines file (next₀ .at) code (next .at) i
+
+abbrev μ-loop : tie.MeasureT-loop
+μ-loop file kinds scope lines code₀ next₀ i₀ code next i = lines - i
+
+-- src/reading.rt:430:20
+blank-code-requires : tie.Need-blank-code-requires Inv-loop μ-loop
+blank-code-requires c κs = search needs
+
+-- src/reading.rt:432:5
+loop-holds : tie.Need-loop-holds Inv-loop μ-loop
+loop-holds c = (refl, start _ _ _ _ (c .blank-code .ensures))
+
+-- src/reading.rt:433:13
+instr-at-requires : tie.Need-instr-at-requires Inv-loop μ-loop
+instr-at-requires c κs = c .before .before .before .before .before .pre
+
+-- src/reading.rt:434:30
+enum-known-read : tie.Need-enum-known-read Inv-loop μ-loop
+enum-known-read c = search needs
+
+-- src/reading.rt:437:17
+enum-told : tie.Need-enum-told Inv-loop μ-loop
+enum-told c = search needs
+
+-- src/reading.rt:438:39
+why-instr-requires : tie.Need-why-instr-requires Inv-loop μ-loop
+why-instr-requires c κs = search needs
+
+-- src/reading.rt:435:13
+returns : tie.Need-returns Inv-loop μ-loop
+returns c =
+    let e = c .before .enum-told .given .1 in
+    let l = c .before .before .before .before .before in
+    let q = stops (l .loop .inv .1) (c .before .before .before .before .loop-test .taken) (sym (c .before .before .before .instr-at .ensures) ∙ e) in
+    rw q (ap Ended.Refused (c .why-instr .ensures ∙ ap whyInstr e))
+
+-- src/reading.rt:441:9
+mul-code : tie.Need-mul-code Inv-loop μ-loop
+mul-code c = omega (arith, c .before .before .before .before .before .before .before .before .before .pre .few-lines)
+
+-- src/reading.rt:441:9
+array-set-from-code : tie.Need-array-set-from-code Inv-loop μ-loop
+array-set-from-code c = omega (arith, c .before .before .before .before .before .before .before .before .before .pre .few-lines)
+
+-- src/reading.rt:432:9
+add-i : tie.Need-add-i Inv-loop μ-loop
+add-i c = omega arith
+
+-- src/reading.rt:432:5
+loop-less : tie.Need-loop-less Inv-loop μ-loop
+loop-less c = omega arith
+
+-- src/reading.rt:432:5
+loop-again : tie.Need-loop-again Inv-loop μ-loop
+loop-again c =
+    let l = c .before .before .before .before .before in
+    (refl, more (l .loop .inv .1) (c .before .before .before .before .loop-test .taken) (c .before .before .before .before .before .before .before .before .before .pre .few-lines) (sym (c .before .before .before .instr-at .ensures) ∙ c .before .read .given .1))
+
+-- src/reading.rt:425:1
+returns-2 : tie.Need-returns-2 Inv-loop μ-loop
+returns-2 c =
+    let f = c .before .loop .inv .1 in
+    let e = ends f (c .loop-test .left) in
+    rw e
+    (record {
+      lines = omega (arith, f .counted, f .at-most, c .loop-test .left);
+      code = f .held-code;
+      ended = refl;
+    })
+
+pub read-code-spec : {M : Type 1} → statement M
+read-code-spec =
+    tie.close
+    (tie.spec
+    Inv-loop
+    μ-loop
+    blank-code-requires
+    loop-holds
+    instr-at-requires
+    enum-known-read
+    enum-told
+    why-instr-requires
+    returns
+    mul-code
+    array-set-from-code
+    add-i
+    loop-less
+    loop-again
+    returns-2)

@@ -1,0 +1,25 @@
+use Rattle.files.specs.Inside.{whyInstr}
+use borrow.Author.Needs.{needs}
+use Rattle.files.proofs.reading.why_instr.Statement.{statement}
+use Rattle.files.proofs.reading.why_instr.Tie as tie
+use Rattle.files.proofs.reading.why_instr.Reads as reads
+use Rattle.files.proofs.reading.why_instr.Lts as lts
+
+-- src/reading.rt:419:35
+enum-told : tie.Need-enum-told
+enum-told c = search needs
+
+-- src/reading.rt:420:28
+enum-known-read : tie.Need-enum-known-read
+enum-known-read c = search needs
+
+-- src/reading.rt:415:1
+returns : tie.Need-returns
+returns c = rw (c .enum-told .given .1, whyInstr)
+
+-- src/reading.rt:415:1
+returns-2 : tie.Need-returns-2
+returns-2 c = search needs
+
+pub why-instr-spec : {M : Type 1} → statement M
+why-instr-spec = tie.close (tie.spec enum-told enum-known-read returns returns-2)

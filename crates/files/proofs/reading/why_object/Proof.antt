@@ -1,0 +1,25 @@
+use Rattle.files.specs.Inside.{whyObject}
+use borrow.Author.Needs.{needs}
+use Rattle.files.proofs.reading.why_object.Statement.{statement}
+use Rattle.files.proofs.reading.why_object.Tie as tie
+use Rattle.files.proofs.reading.why_object.Reads as reads
+use Rattle.files.proofs.reading.why_object.Lts as lts
+
+-- src/reading.rt:223:37
+enum-told : tie.Need-enum-told
+enum-told c = search needs
+
+-- src/reading.rt:224:29
+enum-known-read : tie.Need-enum-known-read
+enum-known-read c = search needs
+
+-- src/reading.rt:219:1
+returns : tie.Need-returns
+returns c = rw (c .enum-told .given .1, whyObject)
+
+-- src/reading.rt:219:1
+returns-2 : tie.Need-returns-2
+returns-2 c = search needs
+
+pub why-object-spec : {M : Type 1} → statement M
+why-object-spec = tie.close (tie.spec enum-told enum-known-read returns returns-2)

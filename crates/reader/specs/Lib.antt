@@ -1,0 +1,1 @@
+-- The contracts of `reader` cite `numbers` alone: a reader adds no meaning of its own.
