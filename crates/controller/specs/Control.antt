@@ -2,14 +2,18 @@
 -- the plain rule gives. No color and no version 2 stands here; what the table holds afterwards is said
 -- by TableAfter.
 use Prim.Native.Nat.{ℕ}
-use mathlib.Core.List.{List, _++_}
+use mathlib.Core.List.{List, [], _∷_, _++_}
 use mathlib.Core.Bool.{Bool, true, false}
 use lib.ListN.{length, drop}
 use lib.Dec.{leb}
+use Rattle.numbers.specs.declared.Refusal.{Refusal}
 use Rattle.files.specs.Program.{Program}
 use Rattle.files.specs.Reading.{Reading, whole, refusal, readFile}
 use Rattle.coloring.specs.Colored.{classCount}
 use Rattle.layout.specs.Layout.{fits}
+use Rattle.instrumenter.specs.declared.Instrumented.{Instrumented}
+use Rattle.machine.specs.declared.Run.{Run}
+use Rattle.machine.specs.Stop.{numberOf, placeOf}
 use Rattle.machine.specs.State.{Given}
 use Rattle.machine.specs.Runs.{Outcome}
 use Rattle.machine.specs.Running.{Lent, Answer, refuse, exactLengths}
@@ -56,3 +60,12 @@ control file input limit lent =
       | true ↦ answerTo input limit lent (admitted (readFile 1 file))
       | false ↦ refuse lent (refusal 11 0)
     ]
+
+-- the refusal of the instrumenter, where it refused
+abbrev pub whyNot : Instrumented → Refusal
+whyNot (Instrumented.Written n) = refusal 0 0
+whyNot (Instrumented.Refused q) = q
+
+-- "reason, place, steps, numbers out, numbers taken"
+abbrev pub fiveOf : Run → List ℕ
+fiveOf run = numberOf (run .reason) ∷ placeOf run ∷ run .steps ∷ run .out ∷ run .taken ∷ []

@@ -1,1 +1,164 @@
-// The controller.
+// The controller's one entry point: a routine that nobody has read goes in, is instrumented and run, and
+// what comes out is what the plain rule says.
+
+use instrumenter::Instrumented;
+use instrumenter::instrument;
+use machine::Reason;
+use machine::Run;
+use machine::run_file;
+use numbers::Refusal;
+ghost use mathlib.Core.Path.{_≡_};
+ghost use lib.ListN.{length};
+ghost use Rattle.machine.specs.Stop.{refusedRun, numberOf, placeFor};
+ghost use Rattle.machine.specs.Turn.{lentOf, answered};
+ghost use Rattle.controller.specs.Control.{control, whyNot, fiveOf};
+
+// The record of a routine that was not run.
+fn refused(q: Refusal) -> Run
+    ensures { λ r. ⌜ r ≡ refusedRun q ⌝ }
+{
+    Run {
+        reason: Reason::Refused(q),
+        place: 0,
+        steps: 0,
+        out: 0,
+        taken: 0,
+    }
+}
+
+// Why a routine was not instrumented.
+fn why_not(answer: Instrumented) -> Refusal
+    ensures { λ r. ⌜ r ≡ whyNot answer ⌝ }
+{
+    match answer {
+        Instrumented::Written(_) => Refusal {
+            number: 0,
+            place: 0,
+        },
+        Instrumented::Refused(q) => q,
+    }
+}
+
+// Room for any instrumented file.
+fn blank_room() -> [u8; 32768]
+    ensures { λ r. ⌜ length r ≡ 32768 ⌝ }
+{
+    [0; 32768]
+}
+
+// Instruments a routine and runs it, where memory and table have their exact lengths.
+fn instrument_and_run(
+    file: &[u8],
+    input: &[u32],
+    memory: &mut [u8],
+    table: &mut [u8],
+    room: &mut [u32],
+    limit: u32,
+) -> Run
+    requires { ⌜ (length (now memory) ≡ 57344) × (length (now table) ≡ 7168) ⌝ }
+    ensures { λ r. ⌜ answered r (lentOf (now (memory .exit)) (now (table .exit)) (now (room .exit))) ≡ control (now (file .entry)) (now (input .entry)) limit (lentOf (now (memory .entry)) (now (table .entry)) (now (room .entry))) ⌝ }
+{
+    let mut code = blank_room();
+    let answer = instrument(file, &mut code);
+    let Instrumented::Written(length) = answer else {
+        return refused(why_not(answer));
+    };
+    run_file(&code[..length], input, memory, table, room, limit)
+}
+
+// Takes a routine that nobody has read, on lent memory, table and room for numbers out. The record, the
+// numbers out and all of memory are those of the plain rule; a refusal changes no lent byte.
+pub fn control(
+    file: &[u8],
+    input: &[u32],
+    memory: &mut [u8],
+    table: &mut [u8],
+    room: &mut [u32],
+    limit: u32,
+) -> Run
+    ensures { λ r. ⌜ answered r (lentOf (now (memory .exit)) (now (table .exit)) (now (room .exit))) ≡ control (now (file .entry)) (now (input .entry)) limit (lentOf (now (memory .entry)) (now (table .entry)) (now (room .entry))) ⌝ }
+{
+    let wrong = Refusal {
+        number: 11,
+        place: 0,
+    };
+    if memory.len() != 57344 {
+        return refused(wrong);
+    }
+    if table.len() != 7168 {
+        return refused(wrong);
+    }
+    instrument_and_run(file, input, memory, table, room, limit)
+}
+
+// The number of each reason, as 01 lists them.
+fn number_of(reason: Reason) -> u8
+    ensures { λ r. ⌜ r ≡ numberOf reason ⌝ }
+{
+    match reason {
+        Reason::Finished => 0,
+        Reason::PastEnd => 30,
+        Reason::LimitUsed => 31,
+        Reason::NoInput => 32,
+        Reason::NoRoom => 33,
+        Reason::ReadOutside => 34,
+        Reason::StoreOutside => 35,
+        Reason::Forbidden => 36,
+        Reason::BadFree => 37,
+        Reason::Unsound => 38,
+        Reason::Refused(q) => q.number,
+    }
+}
+
+// The place that goes with a reason: a refusal has its own.
+fn place_for(reason: Reason, place: usize) -> usize
+    ensures { λ r. ⌜ r ≡ placeFor reason place ⌝ }
+{
+    match reason {
+        Reason::Finished => place,
+        Reason::PastEnd => place,
+        Reason::LimitUsed => place,
+        Reason::NoInput => place,
+        Reason::NoRoom => place,
+        Reason::ReadOutside => place,
+        Reason::StoreOutside => place,
+        Reason::Forbidden => place,
+        Reason::BadFree => place,
+        Reason::Unsound => place,
+        Reason::Refused(q) => q.place,
+    }
+}
+
+// A record as the five numbers that come back.
+pub fn numbers_of(run: Run) -> [u64; 5]
+    ensures { λ r. ⌜ r ≡ fiveOf run ⌝ }
+{
+    let reason = run.reason;
+    let number = number_of(reason) as u64;
+    let place = place_for(reason, run.place) as u64;
+    [
+        number,
+        place,
+        run.steps as u64,
+        run.out as u64,
+        run.taken as u64,
+    ]
+}
+
+// The same for a host in C or Rust: the five numbers go to `numbers`.
+#[no_mangle]
+pub extern "C" fn toltjebrim_control(
+    file: &[u8],
+    input: &[u32],
+    memory: &mut [u8],
+    table: &mut [u8],
+    room: &mut [u32],
+    limit: u32,
+    numbers: &mut [u64; 5],
+)
+    ensures numbers { λ _. ⌜ now (numbers .exit) ≡ fiveOf (control (now (file .entry)) (now (input .entry)) limit (lentOf (now (memory .entry)) (now (table .entry)) (now (room .entry))) .run) ⌝ }
+    ensures lent { λ _. ⌜ lentOf (now (memory .exit)) (now (table .exit)) (now (room .exit)) ≡ control (now (file .entry)) (now (input .entry)) limit (lentOf (now (memory .entry)) (now (table .entry)) (now (room .entry))) .lent ⌝ }
+{
+    let run = control(file, input, memory, table, room, limit);
+    *numbers = numbers_of(run);
+}

@@ -31,6 +31,12 @@ pub both-right : (a b : Bool) → both a b ≡ true → b ≡ true
 both-right true b p = p
 both-right false b p = let z : _≡_ {A = ℕ} 0 1 = cc in absurd (omega arith)
 
+pub both-are : {a b : Bool} → a ≡ true → b ≡ true → both a b ≡ true
+both-are {a} {b} p q = both-true a b p q
+
+pub both-each : (a b : Bool) → both a b ≡ true → (a ≡ true) × (b ≡ true)
+both-each a b e = (both-left a b e, both-right a b e)
+
 -- a number from low to high
 pub within-bounds : (low high n : ℕ) → within low high n ≡ true → (low ≤ n) × (n ≤ high)
 within-bounds low high n e = go (leb low n) refl e

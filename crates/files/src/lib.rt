@@ -6,10 +6,11 @@ use numbers::Cursor;
 use numbers::Refusal;
 ghost use mathlib.Core.Path.{_≡_};
 ghost use Rattle.files.specs.Reading.{readFile};
-ghost use Rattle.files.specs.Held.{held};
+ghost use Rattle.files.specs.Held.{held, writtenIn, roomWith};
 
 mod reading; // reading.rt: files are read
 mod table; // table.rt: the table of the opcodes, and the ranges of operands
+mod writing; // writing.rt: programs are written
 
 // What an operand of an instruction names, and so its range; `None` where there is no operand.
 pub enum Operand {
@@ -141,4 +142,12 @@ pub fn read_program(file: &[u8]) -> Loaded
     ensures { λ r. ⌜ r ≡ held (readFile 2 (now (file .entry))) ⌝ }
 {
     reading::read_file(file, 2)
+}
+
+// Writes what is held as a file of version 2 into a room.
+pub fn write_program(p: Loaded, room: &mut [u8]) -> Written
+    ensures answer { λ r. ⌜ r ≡ writtenIn (now (room .entry)) p ⌝ }
+    ensures room { λ r. ⌜ now (room .exit) ≡ roomWith (now (room .entry)) p ⌝ }
+{
+    writing::write(p, room)
 }

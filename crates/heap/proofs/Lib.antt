@@ -15,3 +15,4 @@ pub mod Walks
 pub mod Taking
 pub mod Fits
 pub mod Lives
+pub mod Memory

@@ -1,10 +1,8 @@
 -- The five ways in which the instrumenter answers, each with its reason; no two have the same reason, and
 -- there is no other.
-use Prim.Native.Nat.{ℕ, zero, suc, _+_, _<_, _≤_}
-use native.Mathlib.Omega.{arith}
-use mathlib.Core.Path.{_≡_, refl, sym, _∙_, ap, subst}
-use mathlib.Core.Logic.{_⊎_, inl, inr}
-use mathlib.Core.List.{List, [], _∷_}
+use Prim.Native.Nat.{ℕ, _<_, _≤_}
+use mathlib.Core.Path.{_≡_, refl, _∙_, ap}
+use mathlib.Core.List.{List}
 use mathlib.Core.Bool.{Bool, true, false}
 use lib.ListN.{length}
 use lib.Dec.{leb}
@@ -12,14 +10,12 @@ use borrow.Author.Tests.{leb-true, leb-false, le-leb, lt-leb}
 use Rattle.numbers.specs.declared.Refusal.{Refusal}
 use Rattle.files.specs.Program.{Program}
 use Rattle.files.specs.Reading.{Reading, whole, refusal, readFile}
-use Rattle.files.specs.Writing.{spellFile, goodProgram}
+use Rattle.files.specs.Writing.{spellFile}
 use Rattle.coloring.specs.Colored.{tinted, withColors, colorIn, classCount, colored}
 use Rattle.layout.specs.Layout.{piecesOf, fits}
 use Rattle.instrumenter.specs.Instrumented.{instrumented}
-use Rattle.instrumenter.specs.Guards.{Guards, Answer, file, laidOut, accepted, roomFor, answerFor, instrument}
-use Rattle.instrumenter.proofs.Exactly.{guards-itself}
-use Rattle.instrumenter.proofs.Instrumenting.{instrumented-good}
-use Rattle.instrumenter.proofs.Recolored.{tinted-twice, recolored-in}
+use Rattle.instrumenter.specs.Guards.{Answer, file, laidOut, accepted, roomFor, answerFor, instrument}
+use Rattle.instrumenter.proofs.Recolored.{recolored-in}
 
 -- whether the globals fit, and the file of version 2
 abbrev pub fitting : Program → Bool

@@ -1,5 +1,5 @@
 -- 01's own colors are exact, so version 2 of an accepted routine guards it.
-use Prim.Native.Nat.{ℕ, _≤_}
+use Prim.Native.Nat.{_≤_}
 use mathlib.Core.Path.{_≡_, refl}
 use mathlib.Core.Bool.{true}
 use lib.ListN.{length}
@@ -11,8 +11,8 @@ use Rattle.coloring.proofs.Colors.{color-safe, color-low, color-high, color-apa
 use Rattle.layout.specs.Layout.{piecesOf, fits}
 use Rattle.instrumenter.specs.Instrumented.{instrumented}
 use Rattle.instrumenter.specs.Guards.{Exact, Guards}
-use Rattle.instrumenter.proofs.Good.{routine}
-use Rattle.instrumenter.proofs.Inside.{unsafe-below}
+use Rattle.coloring.proofs.Bounds.{unsafe-below}
+use Rattle.instrumenter.proofs.Good.{good-of}
 
 pub exact-colors : (p : Program) → goodProgram 1 p ≡ true → classCount p ≤ 254 → Exact (unsafeSets p) (colorIn p)
 exact-colors p good few =
@@ -20,7 +20,7 @@ exact-colors p good few =
     record {
       safe = color-safe sets;
       low = color-low sets;
-      high = color-high sets (length (p .objects)) few (unsafe-below p (routine p good));
+      high = color-high sets (length (p .objects)) few (unsafe-below p (good-of 1 p good));
       apart = color-apart sets;
       together = color-together sets;
     }

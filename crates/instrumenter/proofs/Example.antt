@@ -2,7 +2,6 @@
 use Prim.Native.Nat.{ℕ}
 use mathlib.Core.Path.{_≡_, refl}
 use mathlib.Core.List.{List, [], _∷_}
-use lib.ListN.{length}
 use Rattle.numbers.specs.Number.{groups, readGroups}
 use Rattle.files.specs.Reading.{readFile, objectsFrom, membersFrom, setsFrom, codeFrom, refusal}
 use Rattle.files.specs.Writing.{spellAll, spellFile}

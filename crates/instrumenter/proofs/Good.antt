@@ -1,49 +1,18 @@
--- What `goodProgram` says, taken apart: the tests as facts.
+-- A test that every element of a list passes; and what a routine that a file says keeps to.
 use Prim.Native.Nat.{ℕ, zero, suc, _+_, _<_, _≤_}
 use native.Mathlib.Omega.{arith}
-use mathlib.Core.Path.{_≡_, refl, sym, _∙_, ap}
+use mathlib.Core.Path.{_≡_, refl}
 use mathlib.Core.List.{List, [], _∷_, _++_}
 use mathlib.Core.Bool.{Bool, true, false}
-use lib.ListN.{length, getD}
-use lib.Dec.{ltb, leb, eqb}
-use borrow.Author.Tests.{leb-true, le-leb}
-use Rattle.files.specs.declared.Object.{Object}
-use Rattle.files.specs.declared.Instr.{Instr}
-use Rattle.files.specs.Program.{Program, within}
-use Rattle.files.specs.Writing.{both, every, goodObject, goodSet, goodSets, goodInstr, scopeOf, goodProgram, spellFile}
-
-pub no-test : {A : Type 0} {b : Bool} → b ≡ true → b ≡ false → A
-no-test p q = let z : _≡_ {A = Bool} true false = sym p ∙ q in absurd (mathlib.Core.Bool.true≢false z)
-
--- ---- two tests in one
-
-pub both-left : (a b : Bool) → both a b ≡ true → a ≡ true
-both-left true b h = refl
-both-left false b h = h
-
-pub both-right : (a b : Bool) → both a b ≡ true → b ≡ true
-both-right true b h = h
-both-right false b h = no-test h refl
-
-pub both-true : (a b : Bool) → a ≡ true → b ≡ true → both a b ≡ true
-both-true true b p q = q
-both-true false b p q = p
-
-pub within-low : (low high n : ℕ) → within low high n ≡ true → low ≤ n
-within-low low high n h = go (leb low n) refl
-  where
-    go : (b : Bool) → leb low n ≡ b → low ≤ n
-    go true e = leb-true low n e
-    go false e = no-test (rw (e, within) at h) refl
-
-pub within-high : (low high n : ℕ) → within low high n ≡ true → n ≤ high
-within-high low high n h =
-    let e : leb low n ≡ true = le-leb low n (within-low low high n h) in leb-true n high (rw (e, within) at h)
-
-pub within-true : (low high n : ℕ) → low ≤ n → n ≤ high → within low high n ≡ true
-within-true low high n p q = simp (le-leb low n p, le-leb n high q, within)
-
--- ---- a test that every element passes
+use lib.ListN.{length, getD, take}
+use lib.Dec.{leb}
+use Rattle.files.specs.Program.{Program}
+use Rattle.files.specs.Writing.{every, goodSet}
+use Rattle.coloring.proofs.Members.{no-test}
+-- the laws of files that this crate stands on
+pub use Rattle.files.proofs.RoundTrip.{Good, good-of, one-spelling, reads-back}
+pub use Rattle.files.proofs.SpelledObjects.{both-true, both-left, both-right, within-bounds, within-true}
+pub use Rattle.files.proofs.SpelledInstructions.{GoodParts, good-parts}
 
 module _ {A : Type 0} (test : A → Bool) where
   pub every-head : (x : A) (xs : List A) → every test (x ∷ xs) ≡ true → test x ≡ true
@@ -73,37 +42,19 @@ module _ {A : Type 0} (test : A → Bool) where
   every-at (x ∷ xs) d zero l h = every-head x xs h
   every-at (x ∷ xs) d (suc at) l h = every-at xs d at (omega arith) (every-tail x xs h)
 
+  pub every-take : (n : ℕ) (xs : List A) → every test xs ≡ true → every test (take n xs) ≡ true
+  unfolding every
+  every-take zero xs h = refl
+  every-take (suc n) [] h = refl
+  every-take (suc n) (x ∷ xs) h = every-cons x (take n xs) (every-head x xs h) (every-take n xs (every-tail x xs h))
+
 -- ---- a routine that a file of version 1 says
 
-pub record Routine (p : Program) : Type 0 where
-  pub few : length (p .objects) ≤ 400
-  pub objects : every (goodObject 1) (p .objects) ≡ true
-  pub sets : every (goodSet (length (p .objects))) (p .sets) ≡ true
-  pub some : 1 ≤ length (p .code)
-  pub most : length (p .code) ≤ 1000
-  pub code : every (goodInstr (scopeOf 1 p)) (p .code) ≡ true
-  pub short : length (spellFile 1 p) ≤ 16384
+module _ (p : Program) (good : Good 1 p) where
+  pub lines-bounds : (1 ≤ length (p .code)) × (length (p .code) ≤ 1000)
+  lines-bounds = within-bounds 1 1000 (length (p .code)) (good .code-most)
 
-pub routine : (p : Program) → goodProgram 1 p ≡ true → Routine p
-unfolding goodProgram
-routine p h =
-    let objects : ℕ = length (p .objects) in
-    let lines : Bool = within 1 1000 (length (p .code)) in
-    let a : Bool = leb objects 400 in
-    let b : Bool = every (goodObject 1) (p .objects) in
-    let c : Bool = goodSets true objects (p .sets) in
-    let e : Bool = every (goodInstr (scopeOf 1 p)) (p .code) in
-    let f : Bool = leb (length (spellFile 1 p)) 16384 in
-    let h1 = both-right a (both b (both c (both lines (both e f)))) h in
-    let h2 = both-right b (both c (both lines (both e f))) h1 in
-    let h3 = both-right c (both lines (both e f)) h2 in
-    let h4 = both-right lines (both e f) h3 in
-    record {
-      few = leb-true objects 400 (both-left a (both b (both c (both lines (both e f)))) h);
-      objects = both-left b (both c (both lines (both e f))) h1;
-      sets = both-right (leb (length (p .sets)) 400) (every (goodSet objects) (p .sets)) (both-left c (both lines (both e f)) h2);
-      some = within-low 1 1000 (length (p .code)) (both-left lines (both e f) h3);
-      most = within-high 1 1000 (length (p .code)) (both-left lines (both e f) h3);
-      code = both-left e f h4;
-      short = leb-true (length (spellFile 1 p)) 16384 (both-right e f h4);
-    }
+  pub set-good : (s : ℕ) → s < length (p .sets) → goodSet (length (p .objects)) (getD (p .sets) s []) ≡ true
+  set-good s l =
+      every-at (goodSet (length (p .objects))) (p .sets) [] s l
+      (both-right (leb (length (p .sets)) 400) (every (goodSet (length (p .objects))) (p .sets)) (good .sets))

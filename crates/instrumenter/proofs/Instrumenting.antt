@@ -1,23 +1,21 @@
 -- Version 2 of a routine under exact colors is a program that a file of version 2 says.
-use Prim.Native.Nat.{ℕ, zero, suc, _+_, _*_, _<_, _≤_}
+use Prim.Native.Nat.{ℕ, _≤_}
 use native.Mathlib.Omega.{arith}
-use mathlib.Core.Path.{_≡_, refl, sym, _∙_, ap}
-use mathlib.Core.List.{List, [], _∷_, _++_}
-use mathlib.Core.Bool.{Bool, true, false}
-use lib.ListN.{length, getD}
-use lib.Dec.{ltb, leb, eqb}
+use mathlib.Core.Path.{_≡_, sym}
+use mathlib.Core.List.{List}
+use mathlib.Core.Bool.{true}
+use lib.ListN.{length}
+use lib.Dec.{leb}
 use borrow.Author.Tests.{le-leb, lt-ltb, ltb-true}
-use Rattle.files.specs.declared.Object.{Object}
-use Rattle.files.specs.declared.Instr.{Instr}
-use Rattle.files.specs.Program.{Program, Scope, within, kindsOf}
-use Rattle.files.specs.Writing.{both, every, goodObject, goodInstr, goodSets, scopeOf, goodProgram, spellFile}
+use Rattle.files.specs.Program.{Program, within, kindsOf}
+use Rattle.files.specs.Writing.{every, goodObject, goodInstr, scopeOf, goodProgram, spellFile}
 use Rattle.coloring.specs.Unsafe.{unsafeSets}
 use Rattle.coloring.specs.Colored.{tinted, colorIn, classCount}
 use Rattle.coloring.proofs.Tinted.{tinted-length}
 use Rattle.layout.specs.Layout.{piecesOf, fits}
 use Rattle.instrumenter.specs.Instrumented.{guarded, newPlace, instrumented}
 use Rattle.instrumenter.specs.Guards.{Exact}
-use Rattle.instrumenter.proofs.Good.{both-true, within-true, Routine, routine}
+use Rattle.instrumenter.proofs.Good.{both-true, within-true, Good, good-of, lines-bounds}
 use Rattle.instrumenter.proofs.Exactly.{exact-colors}
 use Rattle.instrumenter.proofs.Spans.{length-guarded, span-most, span-least, place-inside}
 use Rattle.instrumenter.proofs.Operands.{in-range, is-color, good-tinted, kinds-tinted, newScope, good-guarded}
@@ -27,15 +25,16 @@ module _ (p : Program) (color : ℕ → ℕ) (good : goodProgram 1 p ≡ true) (
   pub exactly-good : goodProgram 2 (instrumented color p) ≡ true
   unfolding goodProgram instrumented
   exactly-good =
-      let r : Routine p = routine p good in
+      let r : Good 1 p = good-of 1 p good in
+      let lines = lines-bounds p r in
       let code = guarded color p (newPlace color p) (p .code) in
       let objects = tinted color 0 (p .objects) in
       let kinds : kindsOf objects ≡ kindsOf (p .objects) = kinds-tinted color 0 (p .objects) in
       let scope = scopeOf 2 (instrumented color p) in
-      let a : leb (length objects) 400 ≡ true = le-leb (length objects) 400 (rw tinted-length (r .few)) in
+      let a : leb (length objects) 400 ≡ true = le-leb (length objects) 400 (rw tinted-length (r .objects-most)) in
       let b : every (goodObject 2) objects ≡ true = good-tinted color (is-color p color exact) 0 (p .objects) (r .objects) in
-      let upto : length code ≤ 2000 = omega (arith, length-guarded color p (newPlace color p) (p .code), span-most color p (p .code), r .most) in
-      let from : 1 ≤ length code = omega (arith, length-guarded color p (newPlace color p) (p .code), span-least color p (p .code), r .some) in
+      let upto : length code ≤ 2000 = omega (arith, length-guarded color p (newPlace color p) (p .code), span-most color p (p .code), lines .1) in
+      let from : 1 ≤ length code = omega (arith, length-guarded color p (newPlace color p) (p .code), span-least color p (p .code), lines .0) in
       let d : within 1 2000 (length code) ≡ true = within-true 1 2000 (length code) from upto in
       let e : every (goodInstr (newScope p (length code))) code ≡ true =
       good-guarded p r (length code) (newPlace color p)
@@ -45,7 +44,7 @@ module _ (p : Program) (color : ℕ → ℕ) (good : goodProgram 1 p ≡ true) (
       let e′ : every (goodInstr scope) code ≡ true =
       mathlib.Core.Path.subst (λ (ks : List ℕ). every (goodInstr (record { version = 2; kinds = ks; sets = 0; code = length code })) code ≡ true) (sym kinds) e
       in
-      let l : length (spellFile 2 (instrumented color p)) ≤ 32768 = omega (arith, file-longer color (exact .high) p, r .few, r .most, r .short) in
+      let l : length (spellFile 2 (instrumented color p)) ≤ 32768 = omega (arith, file-longer color (exact .high) p, r .objects-most, lines .1, r .short) in
       let f : leb (length (spellFile 2 (instrumented color p))) 32768 ≡ true = le-leb (length (spellFile 2 (instrumented color p))) 32768 l in
       both-true (leb (length objects) 400) _ a
       (both-true (every (goodObject 2) objects) _ b

@@ -1,21 +1,20 @@
 -- How long the file of version 2 is: an object has at most two bytes more than in version 1, for its
 -- color, and an instruction at most thirteen more, for its check or its longer target; and the sets are
 -- gone. So 16,384 bytes of version 1 become at most 16,384 + 2 * 400 + 13 * 1,000 + 4.
-use Prim.Native.Nat.{ℕ, zero, suc, _+_, _*_, _/_, _<_, _≤_}
+use Prim.Native.Nat.{ℕ, _+_, _*_, _/_, _≤_}
 use native.Mathlib.Omega.{arith}
 use native.Mathlib.Decide.{decLt}
-use mathlib.Core.Path.{_≡_, refl, sym, _∙_, ap}
+use mathlib.Core.Path.{_≡_, refl}
 use mathlib.Core.List.{List, [], _∷_, _++_}
 use mathlib.Core.Bool.{Bool, true, false}
 use lib.ListN.{length, getD, length-append}
-use lib.Dec.{eqb}
-use Rattle.numbers.specs.Number.{spell, width}
+use Rattle.numbers.specs.Number.{width}
 use Rattle.numbers.proofs.Laws.{width-last, width-more, width-least, width-most}
 use Rattle.files.specs.declared.Object.{Object}
 use Rattle.files.specs.declared.Instr.{Instr}
 use Rattle.files.specs.declared.Instr.the-variants.{End, Place, Add, Sub, Less, Load8, Load32, Put8, Put32, Write8, Write32, Jump, JumpIf, Alloc, Free, In, Out, Check8, Check32, CheckPut8, CheckPut32}
 use Rattle.files.specs.Program.{Program}
-use Rattle.files.specs.Writing.{spellAll, spellIf, spellObject, spellSets, spellInstr, spellFile}
+use Rattle.files.specs.Writing.{spellAll, spellObject, spellInstr, spellFile}
 use Rattle.files.specs.View.{Aim, inGlobal, atTemp, View, act, jump, jumpIf, store, check, view, checkInstr, one, four}
 use Rattle.coloring.specs.Unsafe.{safeAim, setOf}
 use Rattle.coloring.specs.Colored.{tinted}

@@ -1,10 +1,9 @@
 -- Every object and every operand of version 2 is in its range: the objects have colors, a jump's target
 -- is below the new count, a check's color is 2 to 255, and no set is left.
-use Prim.Native.Nat.{ℕ, zero, suc, _+_, _<_, _≤_}
+use Prim.Native.Nat.{ℕ, _+_, _≤_}
 use native.Mathlib.Omega.{arith}
-use mathlib.Core.Path.{_≡_, refl, sym, _∙_, ap}
-use mathlib.Core.Logic.{_≢_}
-use mathlib.Core.List.{List, [], _∷_, _++_, map}
+use mathlib.Core.Path.{_≡_, refl, ap}
+use mathlib.Core.List.{List, [], _∷_, _++_}
 use mathlib.Core.Bool.{Bool, true, false}
 use lib.ListN.{length, getD}
 use lib.Dec.{ltb, leb, eqb}
@@ -14,13 +13,14 @@ use Rattle.files.specs.declared.Instr.{Instr}
 use Rattle.files.specs.declared.Instr.the-variants.{End, Place, Add, Sub, Less, Load8, Load32, Put8, Put32, Write8, Write32, Jump, JumpIf, Alloc, Free, In, Out, Check8, Check32, CheckPut8, CheckPut32}
 use Rattle.files.specs.Program.{Program, Scope, within, isColor, isKind, kindsOf}
 use Rattle.files.specs.Writing.{both, every, goodObject, goodInstr, scopeOf}
-use Rattle.files.specs.View.{Aim, inGlobal, atTemp, View, act, jump, jumpIf, store, check, view, checkInstr, one, four}
+use Rattle.files.specs.View.{View, act, jump, jumpIf, store, check, view, checkInstr}
 use Rattle.coloring.specs.Unsafe.{safeAim, setOf, unsafeSet, setsIn, unsafeSets}
 use Rattle.coloring.specs.Class.{unsafeObject}
 use Rattle.coloring.specs.Colored.{tinted}
 use Rattle.instrumenter.specs.Instrumented.{colorOfSet, checkOf, moved, guarded}
 use Rattle.instrumenter.specs.Guards.{Exact}
-use Rattle.instrumenter.proofs.Good.{no-test, both-left, both-right, both-true, within-true, every-head, every-tail, every-cons, every-append, Routine}
+use Rattle.coloring.proofs.Members.{no-test}
+use Rattle.instrumenter.proofs.Good.{both-left, both-right, both-true, within-true, Good, every-head, every-tail, every-cons, every-append}
 use Rattle.instrumenter.proofs.Inside.{GoodStore, good-store, store-unsafe, unsafe-later}
 use Rattle.instrumenter.proofs.Spans.{check-safe, check-unsafe}
 
@@ -65,7 +65,7 @@ kinds-tinted color from (o ∷ os) = ap (λ (l : List ℕ). o .kind ∷ l) (kind
 abbrev pub newScope : Program → (lines : ℕ) → Scope
 newScope p lines = record { version = 2; kinds = kindsOf (p .objects); sets = 0; code = lines }
 
-module _ (p : Program) (r : Routine p) (lines : ℕ) (target : ℕ → ℕ) (inside : (t : ℕ) → ltb t (length (p .code)) ≡ true → ltb (target t) lines ≡ true) where
+module _ (p : Program) (r : Good 1 p) (lines : ℕ) (target : ℕ → ℕ) (inside : (t : ℕ) → ltb t (length (p .code)) ≡ true → ltb (target t) lines ≡ true) where
   -- the copy of an instruction
   pub good-moved : (i : Instr) → goodInstr (scopeOf 1 p) i ≡ true → goodInstr (newScope p lines) (moved target i) ≡ true
   good-moved End h = h

@@ -1,20 +1,19 @@
 -- What the instrumenter writes reads back as exactly version 2 of the routine that it was given: what is
 -- written is the spelling of a program that a file can say, and such a spelling reads back.
-use Prim.Native.Nat.{ℕ, zero, suc, _+_, _<_, _≤_}
-use mathlib.Core.Path.{_≡_, refl, sym, _∙_, ap, subst}
-use mathlib.Core.List.{List, [], _∷_}
-use mathlib.Core.Bool.{Bool, true, false}
+use Prim.Native.Nat.{ℕ, _≤_}
+use mathlib.Core.Path.{_≡_, refl, subst}
+use mathlib.Core.List.{List}
+use mathlib.Core.Bool.{true}
 use lib.ListN.{length}
-use native.Mathlib.Omega.{arith}
-use Rattle.numbers.specs.declared.Refusal.{Refusal}
 use Rattle.files.specs.Program.{Program}
-use Rattle.files.specs.Reading.{Reading, whole, refusal, readFile}
-use Rattle.files.specs.Writing.{spellFile, spellSets, spellAll, goodProgram}
-use Rattle.files.proofs.RoundTrip.{reads-back, one-spelling}
-use Rattle.coloring.specs.Colored.{tinted, withColors, colorIn, classCount, colored}
+use Rattle.files.specs.Reading.{whole, readFile}
+use Rattle.files.specs.Writing.{goodProgram}
+use Rattle.coloring.specs.Colored.{colorIn, classCount}
 use Rattle.layout.specs.Layout.{piecesOf, fits}
-use Rattle.instrumenter.specs.Instrumented.{instrumented, guarded, newPlace, spanOf}
+use Rattle.instrumenter.specs.Instrumented.{instrumented}
 use Rattle.instrumenter.specs.Guards.{Guards, Answer, file, instrument}
+use native.Mathlib.Omega.{arith}
+use Rattle.instrumenter.proofs.Good.{one-spelling, reads-back}
 use Rattle.instrumenter.proofs.Exactly.{guards-itself}
 use Rattle.instrumenter.proofs.Instrumenting.{instrumented-good}
 use Rattle.instrumenter.proofs.Answers.{fitting, newFile, Because, unread, crowded, overfull, cramped, written, answered-because}

@@ -1,14 +1,14 @@
 -- Version 2 of a routine does not depend on the colors that its objects had before.
-use Prim.Native.Nat.{ℕ, zero, suc, _+_}
-use mathlib.Core.Path.{_≡_, refl, sym, _∙_, ap, ap₂, fun-ext}
+use Prim.Native.Nat.{ℕ, _+_}
+use mathlib.Core.Path.{_≡_, refl, _∙_, ap, ap₂, fun-ext}
 use mathlib.Core.List.{List, [], _∷_, _++_}
 use mathlib.Core.Bool.{Bool, true, false}
-use lib.ListN.{length, getD, take}
+use lib.ListN.{length, take}
 use Rattle.files.specs.declared.Object.{Object}
 use Rattle.files.specs.declared.Instr.{Instr}
 use Rattle.files.specs.Program.{Program}
-use Rattle.files.specs.View.{Aim, View, act, jump, jumpIf, store, check, view, checkInstr}
-use Rattle.coloring.specs.Unsafe.{sizeOf, safeAim, setOf, unsafeSets}
+use Rattle.files.specs.View.{View, act, jump, jumpIf, store, check, view, checkInstr}
+use Rattle.coloring.specs.Unsafe.{sizeOf, safeAim, setOf}
 use Rattle.coloring.specs.Color.{colorOf}
 use Rattle.coloring.specs.Colored.{tinted, withColors, colorIn}
 use Rattle.coloring.proofs.Tinted.{tinted-size, safe-same, set-same, uncolored-sets}

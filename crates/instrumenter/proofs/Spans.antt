@@ -1,11 +1,11 @@
 -- Where the instructions of version 2 stand: at most twice as many as before, and every new place
 -- below their count.
-use Prim.Native.Nat.{ℕ, zero, suc, _+_, _*_, _<_, _≤_}
+use Prim.Native.Nat.{ℕ, zero, suc, _*_, _<_, _≤_}
 use native.Mathlib.Omega.{arith}
-use mathlib.Core.Path.{_≡_, refl, sym, _∙_, ap}
-use mathlib.Core.List.{List, [], _∷_, _++_}
+use mathlib.Core.Path.{_≡_, refl}
+use mathlib.Core.List.{List, [], _∷_}
 use mathlib.Core.Bool.{Bool, true, false}
-use lib.ListN.{length, getD, take, length-append}
+use lib.ListN.{length, take, length-append}
 use Rattle.files.specs.declared.Instr.{Instr}
 use Rattle.files.specs.Program.{Program}
 use Rattle.files.specs.View.{Aim, View, act, jump, jumpIf, store, check, view, checkInstr}

@@ -15,6 +15,7 @@ use Rattle.coloring.specs.Class.{unsafeObject, sameClass}
 use Rattle.coloring.specs.Colored.{withColors, colorIn, colored}
 use Rattle.layout.specs.Layout.{piecesOf, fits}
 use Rattle.instrumenter.specs.Instrumented.{instrumented}
+use Rattle.instrumenter.specs.declared.Instrumented.{Instrumented}
 
 -- colors that give 0 exactly to the safe objects, and two unsafe objects one number exactly when they
 -- are of one class; numbers from 2 up to 255, as a file has them
@@ -61,3 +62,8 @@ instrument bytes room = answerFor room (accepted bytes)
 abbrev pub roomHolding : (room : List ℕ) → Answer → List ℕ
 roomHolding room (file bytes) = bytes ++ drop (length bytes) room
 roomHolding room (Answer.refused q) = room
+
+-- how the answer is told: the file's length, or the refusal
+abbrev pub told : Answer → Instrumented
+told (file bytes) = Instrumented.Written (length bytes)
+told (Answer.refused q) = Instrumented.Refused q

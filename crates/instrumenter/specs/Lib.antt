@@ -1,2 +1,3 @@
 pub mod Instrumented
 pub mod Guards
+pub mod Arrays

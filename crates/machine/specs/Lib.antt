@@ -4,3 +4,5 @@ pub mod Step
 pub mod Runs
 pub mod Colors
 pub mod Running
+pub mod Turn
+pub mod Start

@@ -26,21 +26,21 @@ numberOf Reason.Unsound = 38
 numberOf (Reason.Refused q) = q .number
 
 -- "for a refusal, number and place": the place that goes with a record's number
+abbrev pub placeFor : Reason → (place : ℕ) → ℕ
+placeFor Reason.Finished place = place
+placeFor Reason.PastEnd place = place
+placeFor Reason.LimitUsed place = place
+placeFor Reason.NoInput place = place
+placeFor Reason.NoRoom place = place
+placeFor Reason.ReadOutside place = place
+placeFor Reason.StoreOutside place = place
+placeFor Reason.Forbidden place = place
+placeFor Reason.BadFree place = place
+placeFor Reason.Unsound place = place
+placeFor (Reason.Refused q) place = q .place
+
 abbrev pub placeOf : Run → ℕ
-placeOf run =
-    elim (run .reason) [
-      | Reason.Finished ↦ run .place
-      | Reason.PastEnd ↦ run .place
-      | Reason.LimitUsed ↦ run .place
-      | Reason.NoInput ↦ run .place
-      | Reason.NoRoom ↦ run .place
-      | Reason.ReadOutside ↦ run .place
-      | Reason.StoreOutside ↦ run .place
-      | Reason.Forbidden ↦ run .place
-      | Reason.BadFree ↦ run .place
-      | Reason.Unsound ↦ run .place
-      | Reason.Refused q ↦ q .place
-    ]
+placeOf run = placeFor (run .reason) (run .place)
 
 -- "A refusal .. has zeros in its other fields"
 abbrev pub refusedRun : Refusal → Run

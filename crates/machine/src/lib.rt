@@ -1,5 +1,17 @@
 // The machine: runs any version 2 file on lent memory, table and output room.
+ghost use mathlib.Core.Path.{_≡_};
+ghost use Rattle.machine.specs.Running.{runFile};
+ghost use Rattle.machine.specs.Turn.{answered, lentOf};
+use files::Outcome;
 use numbers::Refusal;
+
+mod temps; // temps.rt: temporaries and calculations
+mod moves; // moves.rt: jumps, input and output
+mod step; // step.rt: one turn
+mod place; // place.rt: the record of a stop
+mod running; // running.rt: the run loop
+mod start; // start.rt: memory and table at the start
+mod lent; // lent.rt: memory, table and heap
 
 // Why a run stopped, or why there was none.
 pub enum Reason {
@@ -24,4 +36,50 @@ pub struct Run {
     pub steps: u32,
     pub out: usize,
     pub taken: usize,
+}
+
+// How far a run has come: the next instruction, the steps, and the counts of numbers out and taken.
+struct Progress {
+    at: usize,
+    steps: u32,
+    out: usize,
+    taken: usize,
+}
+
+// What one turn answers.
+enum Turn {
+    Stop(Reason),
+    On(Progress),
+}
+
+// Runs a file of version 2 on lent memory and table, with numbers from `input` and to `room`, for at most
+// `limit` steps. Nothing is asked of the caller, and nothing that a file can say does more than stop.
+pub fn run_file(
+    file: &[u8],
+    input: &[u32],
+    memory: &mut [u8],
+    table: &mut [u8],
+    room: &mut [u32],
+    limit: u32,
+) -> Run
+    ensures { λ r. ⌜ answered r (lentOf (now (memory .exit)) (now (table .exit)) (now (room .exit))) ≡ runFile (now (file .entry)) (now (input .entry)) limit (lentOf (now (memory .entry)) (now (table .entry)) (now (room .entry))) ⌝ }
+{
+    if memory.len() != 57344 {
+        return start::refused(Refusal {
+            number: 11,
+            place: 0,
+        });
+    }
+    if table.len() != 7168 {
+        return start::refused(Refusal {
+            number: 11,
+            place: 0,
+        });
+    }
+    let held = files::read_program(file);
+    let outcome = held.outcome;
+    match outcome {
+        Outcome::Refused(why) => start::refused(why),
+        Outcome::Whole => start::run_loaded(held, input, limit, memory, table, room),
+    }
 }

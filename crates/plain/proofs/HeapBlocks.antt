@@ -16,7 +16,7 @@ use lib.Dec.{eqb, leb}
 use borrow.Author.Tests.{eq-eqb, ne-eqb, le-leb}
 use Rattle.heap.specs.Memory.{numberAt, colorAt}
 use Rattle.heap.specs.Heap.{endSlot, Block, isFree, blockAt, sound, blocks, withBlock, walkFrom}
-use Rattle.plain.proofs.HeapMemory.{numberAt-same}
+use Rattle.heap.proofs.Memory.{numberAt-same}
 
 -- the color of a block's body: its site's, and 0 where the block is free
 abbrev pub tint : (color : ℕ → ℕ) → Block → ℕ

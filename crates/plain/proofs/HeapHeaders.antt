@@ -7,7 +7,7 @@ use mathlib.Core.List.{List}
 use lib.ListN.{length, getD}
 use Rattle.heap.specs.Memory.{bytesOf, numberAt, put}
 use Rattle.heap.specs.Heap.{putHeader, handOut}
-use Rattle.plain.proofs.HeapMemory.{length-put, put-outside, length-fill, fill-outside, length-bytesOf, numberAt-same, numberAt-put}
+use Rattle.heap.proofs.Memory.{length-put, put-outside, length-fill, fill-outside, length-bytesOf, numberAt-same, numberAt-put}
 
 module _ (m : List ℕ) (header size mark : ℕ) where
   pub length-putHeader : length (putHeader m header size mark) ≡ length m

@@ -25,7 +25,7 @@ use Rattle.coloring.specs.Class.{unsafeObject}
 use Rattle.instrumenter.specs.Guards.{Exact}
 use Rattle.heap.specs.Memory.{memorySize, colorAt, put, everyByte}
 use Rattle.heap.specs.Heap.{heapStart, endSlot, Block, Made, Freed, paintMade, paintFreed}
-use Rattle.plain.proofs.HeapMemory.{length-put, put-outside, everyByte-same}
+use Rattle.heap.proofs.Memory.{length-put, put-outside, everyByte-same}
 use Rattle.plain.proofs.HeapBlocks.{segment-keeps}
 use Rattle.plain.proofs.HeapAlloc.{Tied, Handed}
 use Rattle.plain.proofs.HeapFree.{Released}

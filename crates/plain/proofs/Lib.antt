@@ -22,7 +22,6 @@
 --   Aims        what a store of an accepted routine aims at
 --   Good        what an accepted routine's instructions may name
 --   Recorded    recording the live bodies changes no run
-pub mod HeapMemory
 pub mod HeapHeaders
 pub mod HeapBlocks
 pub mod HeapAlloc

@@ -33,7 +33,7 @@ use Rattle.instrumenter.specs.Instrumented.{checkOf, newPlace}
 use Rattle.instrumenter.proofs.Guarded.{movedView, view-moved, view-check, code₂, place-past, place-inside, Alone, alone, Checked, checked}
 use Rattle.heap.specs.Memory.{memorySize, colorAt, bytesOf, put, everyByte, inside}
 use Rattle.heap.specs.Heap.{heapStart}
-use Rattle.plain.proofs.HeapMemory.{length-bytesOf, everyByte-each}
+use Rattle.heap.proofs.Memory.{length-bytesOf, everyByte-each}
 use Rattle.machine.specs.declared.Reason.{Reason}
 use Rattle.machine.specs.State.{Given, State, temp, addressOf}
 use Rattle.machine.specs.Step.{Effect, stops, passes, completes, stop, next, widthOf, storing, conclude, effect, nextAt, lets, perform, step}

@@ -8,7 +8,7 @@ use mathlib.Core.Bool.{true, false, false≢true}
 use lib.ListN.{length}
 use Rattle.heap.specs.Memory.{tableSize, colorAt, paint}
 use Rattle.heap.specs.Heap.{heapStart}
-use Rattle.plain.proofs.HeapMemory.{length-paint, paint-outside, paint-inside}
+use Rattle.heap.proofs.Memory.{length-paint, paint-outside, paint-inside}
 use Rattle.plain.specs.Live.{Live, owns}
 use Rattle.plain.proofs.Owners.{Each, owns-is, owns-inside}
 

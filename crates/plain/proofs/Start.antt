@@ -14,7 +14,7 @@ use Rattle.instrumenter.specs.Guards.{Exact}
 use Rattle.instrumenter.specs.Instrumented.{instrumented}
 use Rattle.heap.specs.Memory.{memorySize, tableSize, colorAt, paint}
 use Rattle.heap.specs.Heap.{heapStart, endSlot, Block, emptyHeap}
-use Rattle.plain.proofs.HeapMemory.{length-paint, paint-outside, paint-inside}
+use Rattle.heap.proofs.Memory.{length-paint, paint-outside, paint-inside}
 use Rattle.plain.proofs.HeapHeaders.{length-putHeader, header-size, header-mark}
 use Rattle.plain.proofs.HeapAlloc.{Tied}
 use Rattle.machine.specs.State.{blankMemory}

@@ -20,7 +20,7 @@ use Rattle.instrumenter.specs.Instrumented.{instrumented, checkOf, newPlace}
 use Rattle.instrumenter.specs.Guards.{Exact, Guards}
 use Rattle.instrumenter.proofs.Guarded.{movedView, view-moved, view-check, code₂, place-past, alone, checked}
 use Rattle.heap.specs.Memory.{memorySize, colorAt, put, bytesOf}
-use Rattle.plain.proofs.HeapMemory.{put-outside, length-bytesOf}
+use Rattle.heap.proofs.Memory.{put-outside, length-bytesOf}
 use Rattle.machine.specs.State.{Given, State, startState, temp, addressOf}
 use Rattle.machine.specs.Step.{next, widthOf, step}
 use Rattle.machine.specs.Colors.{tableRule, firstTable}

@@ -10,8 +10,9 @@ use mathlib.Core.Path.{_≡_, refl, sym, ap, _∙_, subst}
 use mathlib.Core.List.{List, _++_}
 use mathlib.Core.Bool.{Bool, true, false}
 use native.Mathlib.Omega.{arith}
-use lib.ListN.{length, drop}
-use borrow.Author.Tests.{le-leb, lt-leb}
+use lib.ListN.{length, take, drop, length-append}
+use lib.Seq.{take-at}
+use borrow.Author.Tests.{le-leb, lt-leb, eq-eqb, ne-eqb}
 use Rattle.numbers.specs.declared.Refusal.{Refusal}
 use Rattle.files.specs.Program.{Program}
 use Rattle.files.specs.Reading.{Reading, whole, refusal, readFile}
@@ -21,6 +22,7 @@ use Rattle.coloring.specs.Unsafe.{unsafeSets}
 use Rattle.coloring.specs.Colored.{colorIn, classCount}
 use Rattle.layout.specs.Layout.{fits, piecesOf}
 use Rattle.instrumenter.specs.Instrumented.{instrumented}
+use Rattle.instrumenter.specs.declared.Instrumented.{Instrumented}
 use Rattle.instrumenter.specs.Guards.{instrument}
 use Rattle.instrumenter.specs.Guards as guards
 use Rattle.instrumenter.proofs.Answers.{fitting, newFile, Because, unread, crowded, overfull, cramped, written, answered-because}
@@ -109,3 +111,52 @@ module _ (bytes input : List ℕ) (limit : ℕ) (lent : Lent) (exact : exactLeng
           let accepted : Accepted p = record { good = one-spelling 1 bytes p r .good; classes = c; fitting = plainly } in
           answered _ r ∙ ap (answerTo input limit lent) (admits p c plainly)
           ∙ runs-it p accepted (wrote bytes 32768 p r c f l) (one-routine (wrote bytes 32768 p r c f l .routine) p (wrote bytes 32768 p r c f l .read) r)
+
+-- ---- what the function's returns need
+
+abbrev of : (memory table room : List ℕ) → Lent
+of memory table room = record { memory = memory; table = table; room = room }
+
+module _ (bytes input : List ℕ) (limit : ℕ) (memory table room : List ℕ) where
+  -- "11 | memory or table not of its exact length"
+  pub wrong-memory : (length memory ≡ 57344 → ⊥)
+      → control bytes input limit (of memory table room) ≡ refuse (of memory table room) (refusal 11 0)
+  unfolding control
+  wrong-memory h = simp (ne-eqb (length memory) 57344 h, exactLengths, control)
+
+  pub wrong-table : length memory ≡ 57344 → (length table ≡ 7168 → ⊥)
+      → control bytes input limit (of memory table room) ≡ refuse (of memory table room) (refusal 11 0)
+  unfolding control
+  wrong-table m h = simp (eq-eqb (length memory) 57344 m, ne-eqb (length table) 7168 h, exactLengths, control)
+
+  module _ (m : length memory ≡ 57344) (t : length table ≡ 7168) (file : List ℕ) (long : length file ≡ 32768) where
+    exact-lengths : exactLengths (of memory table room) ≡ true
+    exact-lengths = simp (eq-eqb (length memory) 57344 m, exactLengths) (eq-eqb (length table) 7168 t)
+
+    answer : Controls bytes input limit (of memory table room) (instrument bytes (length file))
+    answer = rw long (controls bytes input limit (of memory table room) exact-lengths)
+
+    -- the instrumenter refuses
+    pub refused-so : (q : Refusal) → guards.told (instrument bytes (length file)) ≡ Instrumented.Refused q
+        → control bytes input limit (of memory table room) ≡ refuse (of memory table room) q
+    refused-so q e = go (instrument bytes (length file)) answer e
+      where
+        go : (a : guards.Answer) → Controls bytes input limit (of memory table room) a → guards.told a ≡ Instrumented.Refused q
+            → control bytes input limit (of memory table room) ≡ refuse (of memory table room) q
+        go (guards.Answer.file out) k e = let z : _≡_ {A = ℕ} 0 1 = cc in absurd (omega arith)
+        go (guards.Answer.refused q′) k e = let same : q′ ≡ q = cc in k ∙ ap (refuse (of memory table room)) same
+
+    -- the instrumenter writes n bytes at the front of the file's room, and the machine runs them
+    pub written-so : (n : ℕ) (after : List ℕ) → guards.told (instrument bytes (length file)) ≡ Instrumented.Written n
+        → after ≡ guards.roomHolding file (instrument bytes (length file))
+        → (n ≤ length after) × (runFile (take n after) input limit (of memory table room) ≡ control bytes input limit (of memory table room))
+    written-so n after e h = go (instrument bytes (length file)) answer e h
+      where
+        go : (a : guards.Answer) → Controls bytes input limit (of memory table room) a → guards.told a ≡ Instrumented.Written n
+            → after ≡ guards.roomHolding file a
+            → (n ≤ length after) × (runFile (take n after) input limit (of memory table room) ≡ control bytes input limit (of memory table room))
+        go (guards.Answer.file out) k e h =
+            let size : length out ≡ n = cc in
+            let front : take n after ≡ out = ap (take n) h ∙ take-at out (drop (length out) file) n size in
+            (rw h (simp length-append (omega arith)), ap (λ (l : List ℕ). runFile l input limit (of memory table room)) front ∙ sym k)
+        go (guards.Answer.refused q) k e h = let z : _≡_ {A = ℕ} 0 1 = cc in absurd (omega arith)

@@ -1,0 +1,111 @@
+-- What the arms for the rest of the opcodes say: an instruction that no named arm takes is no store, or is
+-- copied as it is.
+use Prim.Native.Nat.{ℕ, _-_}
+use mathlib.Core.Path.{_≡_, refl, sym, _∙_, ap}
+use mathlib.Core.List.{List, [], _∷_}
+use lib.ListN.{getD}
+use types.Run.{OneOf, miss}
+use denote.Enum.Declared.{tagOf}
+use Rattle.files.specs.declared.Instr.{Instr}
+use Rattle.files.specs.declared.Instr.the-variants.{End, Place, Add, Sub, Less, Load8, Load32, Put8, Put32, Write8, Write32, Jump, JumpIf, Alloc, Free, In, Out, Check8, Check32, CheckPut8, CheckPut32}
+use Rattle.files.specs.View.{view}
+use Rattle.files.proofs.Instr.{the-type}
+use Rattle.instrumenter.specs.Instrumented.{moved}
+use borrow.Author.Tests.{eq-eqb, ne-eqb}
+use Rattle.instrumenter.specs.Arrays.{checkFor, startIn, firstIn, checkNature, checkIn}
+use Rattle.coloring.specs.declared.Nature.{Nature}
+use Rattle.coloring.specs.Nature.{natureOf, sizesIn}
+use Rattle.coloring.proofs.Nature
+
+-- the opcodes that are no store, and those that are copied as they are
+abbrev pub unstored : List ℕ
+unstored = 0 ∷ 1 ∷ 2 ∷ 3 ∷ 4 ∷ 5 ∷ 6 ∷ 7 ∷ 12 ∷ 13 ∷ 14 ∷ 15 ∷ 16 ∷ 17 ∷ 18 ∷ 19 ∷ 20 ∷ 21 ∷ []
+
+abbrev pub copied : List ℕ
+copied = 0 ∷ 1 ∷ 2 ∷ 3 ∷ 4 ∷ 5 ∷ 6 ∷ 7 ∷ 8 ∷ 9 ∷ 14 ∷ 15 ∷ 16 ∷ 17 ∷ 18 ∷ 19 ∷ 20 ∷ 21 ∷ []
+
+pub no-store : (color : ℕ) (i : Instr) → OneOf unstored (tagOf the-type i) → checkFor (view i) color ≡ End
+no-store color End h = refl
+no-store color (Instr.Set d n) h = refl
+no-store color (Place d g) h = refl
+no-store color (Add d a b) h = refl
+no-store color (Sub d a b) h = refl
+no-store color (Less d a b) h = refl
+no-store color (Load8 d a) h = refl
+no-store color (Load32 d a) h = refl
+no-store color (Put8 g k a) h = absurd (miss unstored 8 tt h)
+no-store color (Put32 g k a) h = absurd (miss unstored 9 tt h)
+no-store color (Write8 a b s) h = absurd (miss unstored 10 tt h)
+no-store color (Write32 a b s) h = absurd (miss unstored 11 tt h)
+no-store color (Jump t) h = refl
+no-store color (JumpIf a t) h = refl
+no-store color (Alloc d g a) h = refl
+no-store color (Free a) h = refl
+no-store color (In d) h = refl
+no-store color (Out a) h = refl
+no-store color (Check8 a c) h = refl
+no-store color (Check32 a c) h = refl
+no-store color (CheckPut8 g k c) h = refl
+no-store color (CheckPut32 g k c) h = refl
+
+pub copied-whole : (target : ℕ → ℕ) (i : Instr) → OneOf copied (tagOf the-type i) → i ≡ moved target i
+copied-whole target End h = refl
+copied-whole target (Instr.Set d n) h = refl
+copied-whole target (Place d g) h = refl
+copied-whole target (Add d a b) h = refl
+copied-whole target (Sub d a b) h = refl
+copied-whole target (Less d a b) h = refl
+copied-whole target (Load8 d a) h = refl
+copied-whole target (Load32 d a) h = refl
+copied-whole target (Put8 g k a) h = refl
+copied-whole target (Put32 g k a) h = refl
+copied-whole target (Write8 a b s) h = absurd (miss copied 10 tt h)
+copied-whole target (Write32 a b s) h = absurd (miss copied 11 tt h)
+copied-whole target (Jump t) h = absurd (miss copied 12 tt h)
+copied-whole target (JumpIf a t) h = absurd (miss copied 13 tt h)
+copied-whole target (Alloc d g a) h = refl
+copied-whole target (Free a) h = refl
+copied-whole target (In d) h = refl
+copied-whole target (Out a) h = refl
+copied-whole target (Check8 a c) h = refl
+copied-whole target (Check32 a c) h = refl
+copied-whole target (CheckPut8 g k c) h = refl
+copied-whole target (CheckPut32 g k c) h = refl
+
+-- ---- where a set starts
+
+pub start-first : (ends : List ℕ) (s : ℕ) → s ≡ 0 → startIn ends s ≡ 0
+start-first ends s h = simp (eq-eqb s 0 h, startIn)
+
+pub start-later : (ends : List ℕ) (s : ℕ) → (s ≡ 0 → ⊥) → startIn ends s ≡ getD ends (s - 1) 0
+start-later ends s h = simp (ne-eqb s 0 h, startIn)
+
+-- ---- the check of an instruction, by its nature
+
+module _ (sizes colors ends members : List ℕ) (i : Instr) (n : Nature) (is : n ≡ natureOf (sizesIn sizes) (view i)) where
+  pub check-own : (g color : ℕ) (r : Instr) → n ≡ Nature.Own g → color ≡ getD colors g 0 → r ≡ checkFor (view i) color
+      → r ∷ [] ≡ checkIn sizes colors ends members i
+  unfolding checkIn
+  check-own g color r own c e =
+      ap (λ (j : Instr). j ∷ []) (e ∙ ap (checkFor (view i)) c)
+      ∙ ap (checkNature colors ends members (view i)) (sym own ∙ is)
+
+  pub check-listed : (s first color : ℕ) (r : Instr) → n ≡ Nature.Listed s → first ≡ firstIn ends members s → color ≡ getD colors first 0
+      → r ≡ checkFor (view i) color → r ∷ [] ≡ checkIn sizes colors ends members i
+  unfolding checkIn
+  check-listed s first color r listed f c e =
+      ap (λ (j : Instr). j ∷ []) (e ∙ ap (checkFor (view i)) (c ∙ ap (λ (x : ℕ). getD colors x 0) f))
+      ∙ ap (checkNature colors ends members (view i)) (sym listed ∙ is)
+
+  -- the natures that have no check
+  none : (m : Nature) → OneOf (0 ∷ 3 ∷ 4 ∷ 5 ∷ []) (tagOf Rattle.coloring.proofs.Nature.the-type m) → [] ≡ checkNature colors ends members (view i) m
+  none Nature.Safe h = refl
+  none (Nature.Own g) h = absurd (miss (0 ∷ 3 ∷ 4 ∷ 5 ∷ []) 1 tt h)
+  none (Nature.Listed s) h = absurd (miss (0 ∷ 3 ∷ 4 ∷ 5 ∷ []) 2 tt h)
+  none (Nature.Jump t) h = refl
+  none Nature.Check h = refl
+  none Nature.Other h = refl
+
+  pub check-none : OneOf (0 ∷ 3 ∷ 4 ∷ 5 ∷ []) (tagOf Rattle.coloring.proofs.Nature.the-type n) → [] ≡ checkIn sizes colors ends members i
+  unfolding checkIn
+  check-none h = none n h ∙ ap (checkNature colors ends members (view i)) is

@@ -1,0 +1,121 @@
+-- Over the arrays that hold a routine with its colors, the two passes give version 2 of that routine.
+use Prim.Native.Nat.{ℕ, _+_, _<_}
+use native.Mathlib.Omega.{arith}
+use mathlib.Core.Path.{_≡_, refl, _∙_, ap, ap₂}
+use mathlib.Core.List.{List, [], _∷_, _++_, map}
+use mathlib.Core.Bool.{Bool, true, false}
+use lib.ListN.{length, getD}
+use lib.Dec.{leb, ltb}
+use borrow.Author.Tests.{ltb-true, lt-ltb}
+use Rattle.files.specs.declared.Instr.{Instr}
+use Rattle.files.specs.declared.Instr.the-variants.{End, Place, Add, Sub, Less, Load8, Load32, Put8, Put32, Write8, Write32, Jump, JumpIf, Alloc, Free, In, Out, Check8, Check32, CheckPut8, CheckPut32}
+use Rattle.files.specs.Program.{Program}
+use Rattle.files.specs.Writing.{both, every, goodInstr, scopeOf}
+use Rattle.files.specs.View.{inGlobal, atTemp, View, act, jump, jumpIf, store, check, view, checkInstr, bytes, extent}
+use Rattle.files.specs.Held.{filled, endsFrom, joined}
+use Rattle.coloring.specs.Unsafe.{sizeOf}
+use Rattle.coloring.specs.Colored.{tinted}
+use Rattle.coloring.specs.declared.Nature.{Nature}
+use Rattle.coloring.specs.Nature.{putNature, natureOf, sizesIn}
+use Rattle.coloring.proofs.Tinted.{tinted-size}
+use Rattle.instrumenter.specs.Instrumented.{checkOf, moved, guarded, spanOf}
+use Rattle.instrumenter.specs.Arrays.{checkFor, firstIn, checkNature, checkIn, guardedIn, spanIn}
+use Rattle.instrumenter.proofs.Good.{both-left, both-right, Good, every-head, every-tail}
+use Rattle.instrumenter.proofs.Inside.{GoodStore, good-store, set-some, first-below}
+use Rattle.instrumenter.proofs.Stored.{size-at, color-at, first-at}
+
+abbrev pub sizesHeld : (color : ℕ → ℕ) → Program → List ℕ
+sizesHeld color p = filled 400 0 (map (λ o. o .size) (tinted color 0 (p .objects)))
+
+abbrev pub colorsHeld : (color : ℕ → ℕ) → Program → List ℕ
+colorsHeld color p = filled 400 0 (map (λ o. o .color) (tinted color 0 (p .objects)))
+
+abbrev pub endsHeld : Program → List ℕ
+endsHeld p = filled 400 0 (endsFrom 0 (p .sets))
+
+abbrev pub membersHeld : Program → List ℕ
+membersHeld p = filled 16384 0 (joined (p .sets))
+
+-- the checks over the arrays
+abbrev pub checksHeld : (color : ℕ → ℕ) → Program → Instr → List Instr
+checksHeld color p = checkIn (sizesHeld color p) (colorsHeld color p) (endsHeld p) (membersHeld p)
+
+abbrev pick : (safe : Bool) → List Instr → List Instr
+pick safe unsafe = elim safe [ true ↦ [] | false ↦ unsafe ]
+
+module _ (p : Program) (r : Good 1 p) (color : ℕ → ℕ) where
+  -- ---- one check
+
+  by-nature : (v : View) (size g k n : ℕ) → checkNature (colorsHeld color p) (endsHeld p) (membersHeld p) v (putNature size g k n) ≡ pick (leb (k + n) (extent size)) (checkFor v (getD (colorsHeld color p) g 0) ∷ [])
+  by-nature v size g k n = go (leb (k + n) (extent size))
+    where
+      go : (b : Bool) → checkNature (colorsHeld color p) (endsHeld p) (membersHeld p) v (elim b [ true ↦ Nature.Safe | false ↦ Nature.Own g ]) ≡ pick b (checkFor v (getD (colorsHeld color p) g 0) ∷ [])
+      go true = refl
+      go false = refl
+
+  check-matches : (v : View) → GoodStore p r v
+      → checkNature (colorsHeld color p) (endsHeld p) (membersHeld p) v (natureOf (sizesIn (sizesHeld color p)) v) ≡ checkOf color p v
+  check-matches (act x) g = refl
+  check-matches (jump t) g = refl
+  check-matches (jumpIf a t) g = refl
+  check-matches (store (inGlobal o k w) b s) g =
+      let low : ltb o 400 ≡ true = lt-ltb o 400 (omega (arith, g, r .objects-most)) in
+      let size : sizesIn (sizesHeld color p) o ≡ sizeOf (p .objects) o =
+      rw (low, sizesIn) (size-at 400 (tinted color 0 (p .objects)) o ∙ tinted-size color 0 (p .objects) o)
+      in
+      by-nature (store (inGlobal o k w) b s) (sizesIn (sizesHeld color p) o) o k (bytes w)
+      ∙ ap₂ (λ (n c : ℕ). pick (leb (k + bytes w) (extent n)) (checkInstr (inGlobal o k w) c ∷ [])) size (color-at 400 color (p .objects) o g)
+  check-matches (store (atTemp a w) b s) g =
+      let first : firstIn (endsHeld p) (membersHeld p) s ≡ getD (getD (p .sets) s []) 0 0 = first-at 400 16384 (p .sets) s g (set-some p r s g) in
+      ap (λ (x : ℕ). checkInstr (atTemp a w) (getD (colorsHeld color p) x 0) ∷ []) first
+      ∙ ap (λ (c : ℕ). checkInstr (atTemp a w) c ∷ []) (color-at 400 color (p .objects) (getD (getD (p .sets) s []) 0 0) (first-below p r (atTemp a w) s g))
+  check-matches (check aim c) g = refl
+
+  pub check-held : (i : Instr) → goodInstr (scopeOf 1 p) i ≡ true → checksHeld color p i ≡ checkOf color p (view i)
+  unfolding checkIn
+  check-held i h = check-matches (view i) (good-store p r i h)
+
+  -- ---- places
+
+  pub span-held : (code : List Instr) → every (goodInstr (scopeOf 1 p)) code ≡ true → spanIn (checksHeld color p) code ≡ spanOf color p code
+  unfolding spanIn spanOf
+  span-held [] h = refl
+  span-held (i ∷ code) h =
+      ap₂ (λ (c : List Instr) (n : ℕ). length c + 1 + n)
+      (check-held i (every-head (goodInstr (scopeOf 1 p)) i code h))
+      (span-held code (every-tail (goodInstr (scopeOf 1 p)) i code h))
+
+  -- ---- code
+
+  module _ (target other : ℕ → ℕ) (agree : (t : ℕ) → t < length (p .code) → target t ≡ other t) where
+    moved-same : (i : Instr) → goodInstr (scopeOf 1 p) i ≡ true → moved target i ≡ moved other i
+    moved-same End h = refl
+    moved-same (Instr.Set d n) h = refl
+    moved-same (Place d g) h = refl
+    moved-same (Add d a b) h = refl
+    moved-same (Sub d a b) h = refl
+    moved-same (Less d a b) h = refl
+    moved-same (Load8 d a) h = refl
+    moved-same (Load32 d a) h = refl
+    moved-same (Put8 g k a) h = refl
+    moved-same (Put32 g k a) h = refl
+    moved-same (Write8 a b s) h = refl
+    moved-same (Write32 a b s) h = refl
+    moved-same (Jump t) h = ap (λ (x : ℕ). Jump x) (agree t (ltb-true t (length (p .code)) (both-left (ltb t (length (p .code))) true h)))
+    moved-same (JumpIf a t) h = ap (λ (x : ℕ). JumpIf a x) (agree t (ltb-true t (length (p .code)) (both-left (ltb t (length (p .code))) true (both-right (ltb a 16) (both (ltb t (length (p .code))) true) h))))
+    moved-same (Alloc d g a) h = refl
+    moved-same (Free a) h = refl
+    moved-same (In d) h = refl
+    moved-same (Out a) h = refl
+    moved-same (Check8 a c) h = refl
+    moved-same (Check32 a c) h = refl
+    moved-same (CheckPut8 g k c) h = refl
+    moved-same (CheckPut32 g k c) h = refl
+
+    pub guarded-held : (code : List Instr) → every (goodInstr (scopeOf 1 p)) code ≡ true → guardedIn (checksHeld color p) target code ≡ guarded color p other code
+    unfolding guardedIn guarded
+    guarded-held [] h = refl
+    guarded-held (i ∷ code) h =
+        let g : goodInstr (scopeOf 1 p) i ≡ true = every-head (goodInstr (scopeOf 1 p)) i code h in
+        ap₂ (λ (c : List Instr) (j : Instr). c ++ j ∷ guardedIn (checksHeld color p) target code) (check-held i g) (moved-same i g)
+        ∙ ap (λ (l : List Instr). checkOf color p (view i) ++ moved other i ∷ l) (guarded-held code (every-tail (goodInstr (scopeOf 1 p)) i code h))

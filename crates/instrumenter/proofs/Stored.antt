@@ -1,0 +1,135 @@
+-- What the arrays say of the program that they hold: its sizes and colors, the first member of each set,
+-- its code and its objects.
+use Prim.Native.Nat.{ℕ, zero, suc, _+_, _-_, _<_, _≤_}
+use native.Mathlib.Omega.{arith}
+use mathlib.Core.Path.{_≡_, refl, sym, _∙_, ap}
+use mathlib.Core.List.{List, [], _∷_, _++_, map}
+use lib.ListN.{length, getD, take, replicate, length-append, length-map, List·getD-map, List·getD-append}
+use lib.Seq.{take-at, take-append-le, getD-append-add, ext-getD}
+use Rattle.layout.proofs.Pieces.{length-tabulate, getD-tabulate}
+use Rattle.files.specs.declared.Object.{Object}
+use Rattle.files.specs.declared.Instr.{Instr}
+use Rattle.files.specs.declared.Line.{Line}
+use Rattle.files.specs.Held.{filled, line, endsFrom, joined, tabulate}
+use Rattle.coloring.specs.Unsafe.{sizeOf}
+use Rattle.coloring.specs.Colored.{tinted}
+use Rattle.instrumenter.specs.Arrays.{startIn, firstIn, instrsIn}
+use Rattle.instrumenter.proofs.Cases.{start-first, start-later}
+
+-- ---- a filled array
+
+-- an element of what fills it, or else the blank
+pub getD-filled : {A : Type 0} (n : ℕ) (b : A) (xs : List A) (i : ℕ) → getD (filled n b xs) i b ≡ getD xs i b
+unfolding filled
+getD-filled {A = A} n b xs i = go (n - length xs) xs i
+  where
+    go : (k : ℕ) (xs : List A) (i : ℕ) → getD (xs ++ replicate k b) i b ≡ getD xs i b
+    go zero [] i = refl
+    go (suc k) [] zero = refl
+    go (suc k) [] (suc i) = go k [] i
+    go k (x ∷ xs) zero = refl
+    go k (x ∷ xs) (suc i) = go k xs i
+
+pub size-at : (n : ℕ) (os : List Object) (g : ℕ) → getD (filled n 0 (map (λ o. o .size) os)) g 0 ≡ sizeOf os g
+size-at n os g =
+    getD-filled n 0 (map (λ o. o .size) os) g
+    ∙ List·getD-map (λ (o : Object). o .size) os g (record { kind = 0; size = 0; color = 0 })
+
+tint-at : (color : ℕ → ℕ) (from : ℕ) (os : List Object) (x : ℕ) → x < length os → getD (map (λ o. o .color) (tinted color from os)) x 0 ≡ color (from + x)
+unfolding tinted
+tint-at color from [] x l = absurd (omega arith)
+tint-at color from (o ∷ os) zero l = let e : from ≡ from + 0 = omega arith in ap color e
+tint-at color from (o ∷ os) (suc x) l =
+    let e : from + 1 + x ≡ from + suc x = omega arith in tint-at color (from + 1) os x (omega arith) ∙ ap color e
+
+pub color-at : (n : ℕ) (color : ℕ → ℕ) (os : List Object) (x : ℕ) → x < length os → getD (filled n 0 (map (λ o. o .color) (tinted color 0 os))) x 0 ≡ color x
+color-at n color os x l =
+    let e : 0 + x ≡ x = omega arith in
+    getD-filled n 0 (map (λ o. o .color) (tinted color 0 os)) x ∙ tint-at color 0 os x l ∙ ap color e
+
+-- ---- sets
+
+end-at : (from : ℕ) (sets : List (List ℕ)) (s : ℕ) → s < length sets → getD (endsFrom from sets) s 0 ≡ from + length (joined (take (suc s) sets))
+unfolding endsFrom joined
+end-at from [] s l = absurd (omega arith)
+end-at from (x ∷ sets) zero l = rw length-append (omega arith)
+end-at from (x ∷ sets) (suc s) l = rw length-append (omega (arith, end-at (from + length x) sets s (omega arith)))
+
+start-at : (n : ℕ) (sets : List (List ℕ)) (s : ℕ) → s < length sets → startIn (filled n 0 (endsFrom 0 sets)) s ≡ length (joined (take s sets))
+unfolding joined
+start-at n sets zero l = start-first (filled n 0 (endsFrom 0 sets)) 0 refl
+start-at n sets (suc s) l =
+    let e : suc s - 1 ≡ s = omega arith in
+    start-later (filled n 0 (endsFrom 0 sets)) (suc s) (λ (z : suc s ≡ 0). omega arith)
+    ∙ ap (λ (i : ℕ). getD (filled n 0 (endsFrom 0 sets)) i 0) e
+    ∙ getD-filled n 0 (endsFrom 0 sets) s
+    ∙ (let e′ : getD (endsFrom 0 sets) s 0 ≡ length (joined (take (suc s) sets)) = omega (arith, end-at 0 sets s (omega arith)) in e′)
+
+member-at : (sets : List (List ℕ)) (s : ℕ) → s < length sets → 1 ≤ length (getD sets s []) → getD (joined sets) (length (joined (take s sets))) 0 ≡ getD (getD sets s []) 0 0
+unfolding joined
+member-at [] s l h = absurd (omega arith)
+member-at (x ∷ sets) zero l h = List·getD-append x (joined sets) 0 0 h
+member-at (x ∷ sets) (suc s) l h =
+    ap (λ (i : ℕ). getD (x ++ joined sets) i 0) (length-append x (joined (take s sets)))
+    ∙ getD-append-add x (joined sets) (length (joined (take s sets))) 0
+    ∙ member-at sets s (omega arith) h
+
+pub first-at : (n m : ℕ) (sets : List (List ℕ)) (s : ℕ) → s < length sets → 1 ≤ length (getD sets s [])
+    → firstIn (filled n 0 (endsFrom 0 sets)) (filled m 0 (joined sets)) s ≡ getD (getD sets s []) 0 0
+first-at n m sets s l h =
+    ap (λ (i : ℕ). getD (filled m 0 (joined sets)) i 0) (start-at n sets s l)
+    ∙ getD-filled m 0 (joined sets) (length (joined (take s sets)))
+    ∙ member-at sets s l h
+
+-- ---- code
+
+instrs-lines : (code : List Instr) → map (λ (x : Line). x .instr) (map line code) ≡ code
+instrs-lines [] = refl
+instrs-lines (i ∷ code) = ap (λ (l : List Instr). i ∷ l) (instrs-lines code)
+
+pub code-at : (n : ℕ) (b : Line) (code : List Instr) (t : ℕ) → t ≤ length code → take t (instrsIn (filled n b (map line code))) ≡ take t code
+unfolding filled
+code-at n b code t l =
+    let rest = replicate (n - length (map line code)) b in
+    ap (take t) (mathlib.Core.List.map-append (λ (x : Line). x .instr) (map line code) rest)
+    ∙ ap (λ (c : List Instr). take t (c ++ map (λ (x : Line). x .instr) rest)) (instrs-lines code)
+    ∙ take-append-le t code (map (λ (x : Line). x .instr) rest) l
+
+-- the lines that count, as a program's code
+pub lines-at : (n : ℕ) (b : Line) (code : List Instr) → map (λ (x : Line). x .instr) (take (length code) (filled n b (map line code))) ≡ code
+unfolding filled
+lines-at n b code =
+    ap (map (λ (x : Line). x .instr)) (take-at (map line code) (replicate (n - length (map line code)) b) (length code) (length-map code line))
+    ∙ instrs-lines code
+
+-- ---- objects
+
+abbrev none : Object
+none = record { kind = 0; size = 0; color = 0 }
+
+field-at : (n : ℕ) (os : List Object) (f : Object → ℕ) → f none ≡ 0 → (i : ℕ) → getD (filled n 0 (map f os)) i 0 ≡ f (getD os i none)
+field-at n os f z i =
+    getD-filled n 0 (map f os) i ∙ ap (λ (d : ℕ). getD (map f os) i d) (sym z) ∙ List·getD-map f os i none
+
+-- the object that the three arrays have at a place
+abbrev pub objectIn : (kinds sizes colors : List ℕ) (i : ℕ) → Object
+objectIn kinds sizes colors i = record { kind = getD kinds i 0; size = getD sizes i 0; color = getD colors i 0 }
+
+pub objects-at : (n : ℕ) (os : List Object)
+    → tabulate (objectIn (filled n 0 (map (λ o. o .kind) os)) (filled n 0 (map (λ o. o .size) os)) (filled n 0 (map (λ o. o .color) os))) 0 (length os) ≡ os
+objects-at n os = ext-getD none (tabulate f 0 (length os)) os (length-tabulate f 0 (length os)) each
+  where
+    f : ℕ → Object
+    f = objectIn (filled n 0 (map (λ o. o .kind) os)) (filled n 0 (map (λ o. o .size) os)) (filled n 0 (map (λ o. o .color) os))
+
+    each : (i : ℕ) → i < length (tabulate f 0 (length os)) → getD (tabulate f 0 (length os)) i none ≡ getD os i none
+    each i h =
+        let l : i < length os = omega (arith, length-tabulate f 0 (length os)) in
+        let e : 0 + i ≡ i = omega arith in
+        getD-tabulate f 0 (length os) i none l
+        ∙ ap f e
+        ∙ (λ j. record {
+          kind = field-at n os (λ o. o .kind) refl i j;
+          size = field-at n os (λ o. o .size) refl i j;
+          color = field-at n os (λ o. o .color) refl i j;
+        })

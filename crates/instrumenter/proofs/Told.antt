@@ -1,0 +1,181 @@
+-- What the code has in hand at each of its answers gives the reason for that answer, and so the answer.
+use Prim.Native.Nat.{ℕ, _+_, _<_, _≤_}
+use native.Mathlib.Omega.{arith}
+use mathlib.Core.Path.{_≡_, refl, sym, _∙_, ap, subst}
+use mathlib.Core.List.{List, [], _∷_, _++_}
+use mathlib.Core.Bool.{Bool, true, false}
+use lib.ListN.{length, drop}
+use lib.Dec.{leb}
+use types.Run.{OneOf, miss}
+use denote.Enum.Declared.{tagOf}
+use borrow.Author.Tests.{leb-true, leb-false, le-leb, lt-leb}
+use Rattle.numbers.specs.declared.Refusal.{Refusal}
+use Rattle.files.specs.declared.Loaded.{Loaded}
+use Rattle.files.specs.declared.Outcome.{Outcome}
+use Rattle.files.specs.declared.Written.{Written}
+use Rattle.files.proofs.Outcome
+use Rattle.files.proofs.Written
+use Rattle.files.specs.Program.{Program}
+use Rattle.files.specs.Reading.{Reading, whole, refusal, readFile}
+use Rattle.files.specs.Writing.{goodProgram}
+use Rattle.files.specs.Held.{held, heldAs, writable, fileOf, writtenIn, roomWith}
+use Rattle.coloring.specs.Colored.{tinted, withColors, colorIn, classCount, colored}
+use Rattle.coloring.proofs.Tinted.{tinted-length}
+use Rattle.layout.specs.declared.Layout.{Layout}
+use Rattle.layout.specs.Layout.{piecesOf, piecesIn, endOf, layoutOf}
+use Rattle.layout.proofs.Pieces.{pieces-held}
+use Rattle.instrumenter.specs.declared.Instrumented.{Instrumented}
+use Rattle.instrumenter.specs.Guards.{Answer, file, laidOut, answerFor, instrument, roomHolding, told}
+use Rattle.instrumenter.specs.Arrays.{Version2}
+use Rattle.instrumenter.proofs.Good.{one-spelling, good-of, lines-bounds}
+use Rattle.instrumenter.proofs.Instrumenting.{instrumented-good}
+use Rattle.instrumenter.proofs.Answers.{fitting, newFile, overfull, cramped, written, answers}
+use Rattle.instrumenter.proofs.Version.{file-is, writable-is}
+
+-- the code's answer, and the room that it leaves
+abbrev pub Answers : (bytes room : List ℕ) → Instrumented → (after : List ℕ) → Type 0
+Answers bytes room r after = (r ≡ told (instrument bytes (length room))) × (after ≡ roomHolding room (instrument bytes (length room)))
+
+-- two answers that meet the contract are equal
+pub one-answer : (bytes room : List ℕ) {r r′ : Instrumented} {after after′ : List ℕ} → Answers bytes room r after → Answers bytes room r′ after′ → (r ≡ r′) × (after ≡ after′)
+one-answer bytes room a b = (a .0 ∙ sym (b .0), a .1 ∙ sym (b .1))
+
+answer : (bytes room : List ℕ) (a : Answer) → instrument bytes (length room) ≡ a → Answers bytes room (told a) (roomHolding room a)
+answer bytes room a e = (ap told (sym e), ap (roomHolding room) (sym e))
+
+module _ (bytes : List ℕ) where
+  -- ---- a file that is refused with 1 to 8
+
+  refused-by : (n : ℕ) (x : Reading) (q : Refusal) → colored (readFile 1 bytes) ≡ x → held x .outcome ≡ Outcome.Refused q → instrument bytes n ≡ Answer.refused q
+  unfolding instrument
+  refused-by n (whole p) q e o = let z : _≡_ {A = ℕ} 0 1 = cc in absurd (omega arith)
+  refused-by n (Reading.refused q′) q e o =
+      let same : q′ ≡ q = cc in
+      ap (λ (x : Reading). answerFor n (laidOut x)) e ∙ ap Answer.refused same
+
+  pub told-refused : (room : List ℕ) (l : Loaded) (q : Refusal) → l ≡ held (colored (readFile 1 bytes)) → l .outcome ≡ Outcome.Refused q
+      → Answers bytes room (Instrumented.Refused q) room
+  told-refused room l q e o =
+      answer bytes room (Answer.refused q)
+      (refused-by (length room) (colored (readFile 1 bytes)) q refl (sym (ap (λ (x : Loaded). x .outcome) e) ∙ o))
+
+  -- ---- a routine that is held with its colors
+
+  pub record Kept (l : Loaded) : Type 0 where
+    pub routine : Program
+    pub read : readFile 1 bytes ≡ whole routine
+    pub good : goodProgram 1 routine ≡ true
+    pub classes : classCount routine ≤ 254
+    pub is : l ≡ heldAs Outcome.Whole (withColors (colorIn routine) routine)
+
+  pub kept : (l : Loaded) → l ≡ held (colored (readFile 1 bytes)) → tagOf Rattle.files.proofs.Outcome.the-type (l .outcome) ≡ 0 → Kept l
+  unfolding colored
+  kept l e t = reading (readFile 1 bytes) refl
+    where
+      wholly : (x : Reading) → colored (readFile 1 bytes) ≡ x → l ≡ held x
+      wholly x c = e ∙ ap held c
+
+      no : (q : Refusal) → colored (readFile 1 bytes) ≡ Reading.refused q → Kept l
+      no q c =
+          let o : l .outcome ≡ Outcome.Refused q = ap (λ (x : Loaded). x .outcome) (wholly (Reading.refused q) c) in
+          let z : _≡_ {A = ℕ} 0 1 = sym t ∙ ap (tagOf Rattle.files.proofs.Outcome.the-type) o in
+          absurd (omega arith)
+
+      counted : (p : Program) → readFile 1 bytes ≡ whole p → (b : Bool) → leb (classCount p) 254 ≡ b → Kept l
+      counted p r true c =
+          record {
+            routine = p;
+            read = r;
+            good = one-spelling 1 bytes p r .good;
+            classes = leb-true (classCount p) 254 c;
+            is = wholly (whole (withColors (colorIn p) p)) (ap colored r ∙ rw (c, colored));
+          }
+      counted p r false c = no (refusal 8 0) (ap colored r ∙ rw (c, colored))
+
+      reading : (x : Reading) → readFile 1 bytes ≡ x → Kept l
+      reading (whole p) r = counted p r (leb (classCount p) 254) refl
+      reading (Reading.refused q) r = no q (ap colored r)
+
+  module _ (l : Loaded) (k : Kept l) where
+    pub lines-few : l .lines ≤ 1000
+    lines-few = let e : l .lines ≡ length (k .routine .code) = ap (λ (x : Loaded). x .lines) (k .is) in omega (arith, lines-bounds (k .routine) (good-of 1 (k .routine) (k .good)) .1)
+
+    -- where its globals end
+    pub end-is : (laid : Layout) → laid ≡ layoutOf (piecesIn (l .kinds) (l .sizes) (l .colors) (l .objects))
+        → laid .end ≡ endOf (piecesOf (tinted (colorIn (k .routine)) 0 (k .routine .objects)))
+    end-is laid e =
+        let os = tinted (colorIn (k .routine)) 0 (k .routine .objects) in
+        let few : length os ≤ 400 = rw tinted-length (good-of 1 (k .routine) (k .good) .objects-most) in
+        ap (λ (x : Layout). x .end) e
+        ∙ ap (λ (x : Loaded). endOf (piecesIn (x .kinds) (x .sizes) (x .colors) (x .objects))) (k .is)
+        ∙ ap endOf (pieces-held os few)
+
+    pub told-overfull : (room : List ℕ) (laid : Layout) → laid ≡ layoutOf (piecesIn (l .kinds) (l .sizes) (l .colors) (l .objects)) → 28672 < laid .end
+        → Answers bytes room (Instrumented.Refused (refusal 9 0)) room
+    told-overfull room laid e h =
+        let over : 28672 < endOf (piecesOf (tinted (colorIn (k .routine)) 0 (k .routine .objects))) = omega (arith, end-is laid e) in
+        answer bytes room (Answer.refused (refusal 9 0))
+        (answers bytes (length room) (overfull (k .read) (k .classes) (lt-leb (endOf (piecesOf (tinted (colorIn (k .routine)) 0 (k .routine .objects)))) 28672 over)))
+
+    pub fits-held : (laid : Layout) → laid ≡ layoutOf (piecesIn (l .kinds) (l .sizes) (l .colors) (l .objects)) → laid .end ≤ 28672 → fitting (k .routine) ≡ true
+    fits-held laid e h =
+        le-leb (endOf (piecesOf (tinted (colorIn (k .routine)) 0 (k .routine .objects)))) 28672 (omega (arith, end-is laid e))
+
+    -- ---- what writing leaves
+
+    module _ (q : Loaded) (v : Version2 l q) (fit : fitting (k .routine) ≡ true) (room : List ℕ) where
+      w : Version2 (heldAs Outcome.Whole (withColors (colorIn (k .routine)) (k .routine))) q
+      w = subst (λ (x : Loaded). Version2 x q) (k .is) v
+
+      file-of : fileOf q ≡ newFile (k .routine)
+      file-of = file-is (k .routine) (good-of 1 (k .routine) (k .good)) (colorIn (k .routine)) q w
+
+      can : writable q ≡ true
+      can =
+          writable-is (k .routine) (good-of 1 (k .routine) (k .good)) (colorIn (k .routine)) q w
+          (instrumented-good (k .routine) (k .good) (k .classes) fit)
+
+      room-wide : length (newFile (k .routine)) ≤ length room
+          → (writtenIn room q ≡ Written.Upto (length (newFile (k .routine)))) × (roomWith room q ≡ roomHolding room (file (newFile (k .routine))))
+      unfolding writtenIn roomWith
+      room-wide h =
+          let e : leb (length (fileOf q)) (length room) ≡ true = ap (λ (f : List ℕ). leb (length f) (length room)) file-of ∙ le-leb (length (newFile (k .routine))) (length room) h in
+          (rw (can, writtenIn) (rw e (ap (λ (f : List ℕ). Written.Upto (length f)) file-of)), rw (can, roomWith) (rw e (ap (λ (f : List ℕ). f ++ drop (length f) room) file-of)))
+
+      room-narrow : length room < length (newFile (k .routine)) → (writtenIn room q ≡ Written.TooSmall) × (roomWith room q ≡ room)
+      unfolding writtenIn roomWith
+      room-narrow h =
+          let e : leb (length (fileOf q)) (length room) ≡ false = ap (λ (f : List ℕ). leb (length f) (length room)) file-of ∙ lt-leb (length (newFile (k .routine))) (length room) h in
+          (rw (can, writtenIn) (rw e), rw (can, roomWith) (rw e))
+
+      -- the answer that goes with what writing answered
+      abbrev pub Ends : Written → Type 0
+      Ends (Written.Upto n) = Answers bytes room (Instrumented.Written n) (roomWith room q)
+      Ends Written.TooSmall = Answers bytes room (Instrumented.Refused (refusal 10 0)) (roomWith room q)
+      Ends Written.NoProgram = Answers bytes room (Instrumented.Refused (refusal 10 0)) (roomWith room q)
+
+      pub ends : Ends (writtenIn room q)
+      ends = go (leb (length (newFile (k .routine))) (length room)) refl
+        where
+          go : (b : Bool) → leb (length (newFile (k .routine))) (length room) ≡ b → Ends (writtenIn room q)
+          go true e =
+              let h : length (newFile (k .routine)) ≤ length room = leb-true (length (newFile (k .routine))) (length room) e in
+              let a = answer bytes room (file (newFile (k .routine))) (answers bytes (length room) (written (k .read) (k .classes) fit h)) in
+              subst Ends (sym (room-wide h .0)) (a .0, room-wide h .1 ∙ a .1)
+          go false e =
+              let h : length room < length (newFile (k .routine)) = leb-false (length (newFile (k .routine))) (length room) e in
+              let a = answer bytes room (Answer.refused (refusal 10 0)) (answers bytes (length room) (cramped (k .read) (k .classes) fit h)) in
+              subst Ends (sym (room-narrow h .0)) (a .0, room-narrow h .1 ∙ a .1)
+
+      -- as the code meets it
+      pub told-written : (n : ℕ) (after : List ℕ) → writtenIn room q ≡ Written.Upto n → after ≡ roomWith room q → Answers bytes room (Instrumented.Written n) after
+      told-written n after e f = let a = subst Ends e ends in (a .0, f ∙ a .1)
+
+      pub told-cramped : (x : Written) (after : List ℕ) → x ≡ writtenIn room q → OneOf (1 ∷ 2 ∷ []) (tagOf Rattle.files.proofs.Written.the-type x) → after ≡ roomWith room q
+          → Answers bytes room (Instrumented.Refused (refusal 10 0)) after
+      told-cramped x after e t f = go x (subst Ends (sym e) ends) t
+        where
+          go : (x : Written) → Ends x → OneOf (1 ∷ 2 ∷ []) (tagOf Rattle.files.proofs.Written.the-type x) → Answers bytes room (Instrumented.Refused (refusal 10 0)) after
+          go (Written.Upto n) a t = absurd (miss (1 ∷ 2 ∷ []) 0 tt t)
+          go Written.TooSmall a t = (a .0, f ∙ a .1)
+          go Written.NoProgram a t = (a .0, f ∙ a .1)

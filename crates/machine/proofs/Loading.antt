@@ -1,0 +1,237 @@
+-- From what the reader holds to the definition's run of a program.
+--
+-- Of an accepted file the arrays are the program's fields (`held`), so each thing that the code takes
+-- from them is the definition's: the pieces and their layout, the instructions, the first table
+-- (`Starting`), and the rule (`Agreeing`). `runs-program` puts them together: a run of what is held is
+-- the run of the program, or refusal 9. `run_file` adds the refusals before it.
+use Prim.Native.Nat.{ℕ, zero, suc, _+_, _-_, _*_, _<_, _≤_}
+use mathlib.Core.Path.{_≡_, refl, sym, _∙_, ap, subst}
+use mathlib.Core.Bool.{Bool, true, false}
+use mathlib.Core.List.{List, [], _∷_, _++_, map}
+use native.Mathlib.Omega.{arith}
+use native.Mathlib.Nat.{not-suc-le-zero, le-of-suc-le-suc}
+use lib.ListN.{length, getD, take, drop, replicate, length-map, List·getD-eq-default}
+use lib.Seq.{take-at}
+use lib.Dec.{ltb, leb, eqb}
+use borrow.Author.Tests.{leb-true, ltb-true, ltb-false, eq-eqb, ne-eqb, le-leb, lt-leb}
+use Rattle.numbers.specs.declared.Refusal.{Refusal}
+use Rattle.files.specs.declared.Instr.{Instr}
+use Rattle.files.specs.declared.Line.{Line}
+use Rattle.files.specs.declared.Outcome.{Outcome}
+use Rattle.files.specs.declared.Loaded.{Loaded}
+use Rattle.files.specs.Program.{Program, within}
+use Rattle.files.specs.Reading.{Reading, whole, refusal, readFile}
+use Rattle.files.specs.Held.{filled, tabulate, line, heldAs, held}
+use Rattle.files.proofs.RoundTrip.{Good, good-of, one-spelling}
+use Rattle.layout.specs.declared.Layout.{Layout}
+use Rattle.layout.specs.Layout.{Piece, piecesOf, piecesIn, counted, startOf, endOf, fits, total, safeSpace, unsafeSpace, unsafeFrom, layoutOf}
+use Rattle.layout.proofs.Pieces.{length-tabulate, getD-tabulate, pieces-held}
+use Rattle.heap.specs.Memory.{memorySize, tableSize}
+use Rattle.heap.specs.Heap.{paintMade, paintFreed, emptyHeap}
+use Rattle.heap.specs.Lent.{started}
+use Rattle.heap.proofs.Exact.{started-exact}
+use Rattle.machine.specs.declared.Run.{Run}
+use Rattle.machine.specs.Stop.{refusedRun}
+use Rattle.machine.specs.State.{Given, State, blankMemory, startState}
+use Rattle.machine.specs.Runs.{runFrom, runs}
+use Rattle.machine.specs.Colors.{tableAllows, colorOfObject, tableRule, firstTable}
+use Rattle.machine.specs.Running.{Lent, Answer, refuse, leaves, runProgram, runReading, exactLengths, runFile}
+use Rattle.machine.specs.Turn.{heldRule, Low, codeOf, lentOf, answered, runHeld}
+use Rattle.machine.specs.Start.{piecesHeld, laidTable, Runnable, runLoaded}
+use Rattle.machine.proofs.Starting.{noObject, field-held, getD-padded, start-is, laid-first}
+use Rattle.machine.proofs.Agreeing.{same-runs, agrees}
+
+-- ---- starts are low
+
+total-take : (space : Piece → ℕ) (os : List Piece) (g : ℕ) → total space (take g os) ≤ total space os
+unfolding total
+total-take space os zero = omega arith
+total-take space [] (suc g) = omega arith
+total-take space (o ∷ os) (suc g) = omega (arith, total-take space os g)
+
+start-low : (os : List Piece) (g : ℕ) → startOf os g ≤ endOf os
+unfolding startOf
+start-low os g = go (getD os g (record { kind = 0; size = 0; safe = true }) .safe)
+  where
+    go : (b : Bool) → elim b [ true ↦ 8 + total safeSpace (take g os) | false ↦ unsafeFrom os + total unsafeSpace (take g os) ] ≤ endOf os
+    go true = omega (arith, total-take safeSpace os g)
+    go false = omega (arith, total-take unsafeSpace os g)
+
+pub low-starts : (os : List Piece) → endOf os ≤ 28672 → Low (layoutOf os .starts)
+unfolding filled
+low-starts os fit g =
+    let one : getD (tabulate (startOf os) 0 (length os) ++ replicate (400 - length (tabulate (startOf os) 0 (length os))) 0) g 0 ≡ getD (tabulate (startOf os) 0 (length os)) g 0 =
+    getD-padded (tabulate (startOf os) 0 (length os)) (400 - length (tabulate (startOf os) 0 (length os))) g in
+    go (ltb g (length os)) refl one
+  where
+    go : (b : Bool) → ltb g (length os) ≡ b → {x : ℕ} → x ≡ getD (tabulate (startOf os) 0 (length os)) g 0 → x ≤ 28672
+    go true e one =
+        let at : getD (tabulate (startOf os) 0 (length os)) g 0 ≡ startOf os (0 + g) = getD-tabulate (startOf os) 0 (length os) g 0 (ltb-true _ _ e) in
+        omega (arith, start-low os (0 + g))
+    go false e one =
+        let past : length os ≤ g = ltb-false _ _ e in
+        let none : getD (tabulate (startOf os) 0 (length os)) g 0 ≡ 0 =
+        List·getD-eq-default (tabulate (startOf os) 0 (length os)) 0 (omega (arith, length-tabulate (startOf os) 0 (length os))) in
+        omega arith
+
+-- ---- the code's run of what is held
+
+module _ (l : Loaded) (input : List ℕ) (limit : ℕ) (lent : Lent) {lay : Layout} (laid : lay ≡ layoutOf (piecesHeld l)) where
+  pub over-end : {run : Run} → 28672 < lay .end → run ≡ refusedRun (refusal 9 0) → answered run lent ≡ runLoaded l input limit lent
+  unfolding runLoaded
+  over-end over e =
+      let past : 28672 < endOf (piecesHeld l) = subst (λ (n : ℕ). 28672 < n) (ap (λ x. x .end) laid) over in
+      ap (λ x. answered x lent) e ∙ rw (lt-leb (endOf (piecesHeld l)) 28672 past, runLoaded) refl
+
+  module _ (fit : lay .end ≤ 28672) where
+    within-end : endOf (piecesHeld l) ≤ 28672
+    within-end = subst (λ (n : ℕ). n ≤ 28672) (ap (λ x. x .end) laid) fit
+
+    pub low-laid : Low (lay .starts)
+    low-laid = subst (λ (x : Layout). Low (x .starts)) (sym laid) (low-starts (piecesHeld l) within-end)
+
+    pub runs-laid : {x : Answer} {memory table : List ℕ} → memory ≡ started (lent .memory)
+        → table ≡ laidTable (lay .starts) (l .kinds) (l .sizes) (l .colors) (l .objects) (lent .table)
+        → x ≡ runHeld (codeOf (l .code) (l .lines)) (lay .starts) (l .colors) input limit (lentOf memory table (lent .room))
+        → x ≡ runLoaded l input limit lent
+    unfolding runLoaded
+    runs-laid {x} {memory} {table} m t e =
+        let all : table ≡ laidTable (layoutOf (piecesHeld l) .starts) (l .kinds) (l .sizes) (l .colors) (l .objects) (lent .table) =
+        t ∙ ap (λ y. laidTable (y .starts) (l .kinds) (l .sizes) (l .colors) (l .objects) (lent .table)) laid in
+        e ∙ (λ i. runHeld (codeOf (l .code) (l .lines)) (laid i .starts) (l .colors) input limit (lentOf (m i) (all i) (lent .room)))
+        ∙ rw (le-leb (endOf (piecesHeld l)) 28672 within-end, runLoaded) refl
+
+-- ---- a program that is held
+
+code-held : (code : List Instr) → codeOf (filled 2000 (line Instr.End) (map line code)) (length code) ≡ code
+unfolding filled
+code-held code =
+    ap (map (λ x. x .instr)) (take-at (map line code) (replicate (2000 - length (map line code)) (line Instr.End)) (length code) (length-map code line)) ∙ back code
+  where
+    back : (l : List Instr) → map (λ x. x .instr) (map line l) ≡ l
+    back [] = refl
+    back (i ∷ is) = ap (λ r. i ∷ r) (back is)
+
+module _ (p : Program) (good : Good 2 p) (input : List ℕ) (limit : ℕ) (lent : Lent)
+    (memory : length (lent .memory) ≡ memorySize) (table : length (lent .table) ≡ tableSize) where
+  abbrev starts : List ℕ
+  starts = layoutOf (piecesOf (p .objects)) .starts
+
+  abbrev colors : List ℕ
+  colors = filled 400 0 (map (λ o. o .color) (p .objects))
+
+  abbrev given : Given
+  given = record { input = input; room = length (lent .room); limit = limit }
+
+  -- the rule over what is held runs as the table's rule
+  rules-run : endOf (piecesOf (p .objects)) ≤ 28672 → (turns : ℕ) (state : State (List ℕ))
+      → runFrom (heldRule (p .code) starts colors) given turns state ≡ runFrom (tableRule p) given turns state
+  unfolding tableRule
+  rules-run fit turns state =
+      same-runs (p .code) (λ g. getD starts g 0) (startOf (piecesOf (p .objects))) tableAllows
+      (λ t site k. paintMade t (getD colors site 0) k) (λ t site k. paintMade t (colorOfObject (p .objects) site) k) (λ t address f. paintFreed t f) given
+      (λ own site k. ap (λ n. paintMade own n k) (field-held (λ o. o .color) refl (p .objects) site))
+      (agrees p (λ g. getD starts g 0) (startOf (piecesOf (p .objects))) tableAllows
+      (λ t site k. paintMade t (getD colors site 0) k) (λ t site k. paintMade t (colorOfObject (p .objects) site) k) (λ t address f. paintFreed t f) given
+      (start-is (p .objects) (good .objects-most) fit) (good .code))
+      turns state
+
+  blank-memory : started (lent .memory) ≡ emptyHeap blankMemory
+  unfolding blankMemory
+  blank-memory = started-exact (lent .memory) memory
+
+  run-held : endOf (piecesOf (p .objects)) ≤ 28672
+      → runHeld (codeOf (filled 2000 (line Instr.End) (map line (p .code))) (length (p .code))) starts colors input limit
+      (lentOf (started (lent .memory)) (laidTable starts (filled 400 0 (map (λ o. o .kind) (p .objects))) (filled 400 0 (map (λ o. o .size) (p .objects))) colors (length (p .objects)) (lent .table)) (lent .room))
+      ≡ runProgram input limit lent p
+  unfolding runs tableRule
+  run-held fit =
+      (λ i. runHeld (code-held (p .code) i) starts colors input limit (lentOf (blank-memory i) (laid-first p (lent .table) (good .objects-most) fit table i) (lent .room)))
+      ∙ ap (leaves (lent .room)) (rules-run fit ((limit + 1) * (length (p .code) + 1)) (startState (firstTable p)))
+
+  pub runs-program : runLoaded (heldAs Outcome.Whole p) input limit lent ≡ runReading input limit lent (whole p)
+  unfolding runLoaded
+  runs-program = ap by (pieces-held (p .objects) (good .objects-most)) ∙ go (fits (piecesOf (p .objects))) refl
+    where
+      by : List Piece → Answer
+      by os =
+          elim (fits os) [
+            | true ↦
+                runHeld (codeOf (filled 2000 (line Instr.End) (map line (p .code))) (length (p .code))) (layoutOf os .starts) colors input limit
+                (lentOf (started (lent .memory)) (laidTable (layoutOf os .starts) (filled 400 0 (map (λ o. o .kind) (p .objects))) (filled 400 0 (map (λ o. o .size) (p .objects))) colors (length (p .objects)) (lent .table)) (lent .room))
+            | false ↦ refuse lent (refusal 9 0)
+          ]
+
+      go : (b : Bool) → fits (piecesOf (p .objects)) ≡ b
+          → _≡_ {A = Answer} (elim b [
+            | true ↦
+                runHeld (codeOf (filled 2000 (line Instr.End) (map line (p .code))) (length (p .code))) starts colors input limit
+                (lentOf (started (lent .memory)) (laidTable starts (filled 400 0 (map (λ o. o .kind) (p .objects))) (filled 400 0 (map (λ o. o .size) (p .objects))) colors (length (p .objects)) (lent .table)) (lent .room))
+            | false ↦ refuse lent (refusal 9 0)
+          ])
+          (elim b [ true ↦ runProgram input limit lent p | false ↦ refuse lent (refusal 9 0) ])
+      go true e = run-held (leb-true _ _ e)
+      go false e = refl
+
+-- ---- the refusals, and a whole file
+
+whole-not-refused : {q : Refusal} → _≡_ {A = Outcome} (Outcome.Refused q) Outcome.Whole → ⊥
+whole-not-refused e = let x : _≡_ {A = ℕ} 0 1 = cc in omega arith
+
+module _ (file input : List ℕ) (limit : ℕ) (lent : Lent) where
+  pub wrong-memory : {run : Run} → (length (lent .memory) ≡ memorySize → ⊥) → run ≡ refusedRun (refusal 11 0) → answered run lent ≡ runFile file input limit lent
+  unfolding runFile
+  wrong-memory other e = ap (λ x. answered x lent) e ∙ rw (ne-eqb (length (lent .memory)) memorySize other, runFile) refl
+
+  module _ (memory : length (lent .memory) ≡ memorySize) where
+    pub wrong-table : {run : Run} → (length (lent .table) ≡ tableSize → ⊥) → run ≡ refusedRun (refusal 11 0) → answered run lent ≡ runFile file input limit lent
+    unfolding runFile
+    wrong-table other e =
+        ap (λ x. answered x lent) e ∙ rw (eq-eqb (length (lent .memory)) memorySize memory, ne-eqb (length (lent .table)) tableSize other, runFile) refl
+
+    module _ (table : length (lent .table) ≡ tableSize) where
+      exact : runReading input limit lent (readFile 2 file) ≡ runFile file input limit lent
+      unfolding runFile
+      exact = rw (eq-eqb (length (lent .memory)) memorySize memory, eq-eqb (length (lent .table)) tableSize table, runFile) refl
+
+      good : (p : Program) → readFile 2 file ≡ whole p → Good 2 p
+      good p e = good-of 2 p (one-spelling 2 file p e .good)
+
+      pub refuses : {l : Loaded} {q : Refusal} {run : Run} → l ≡ held (readFile 2 file) → l .outcome ≡ Outcome.Refused q → run ≡ refusedRun q
+          → answered run lent ≡ runFile file input limit lent
+      refuses {l} {q} {run} read known e = go (readFile 2 file) (sym (ap (λ x. x .outcome) read) ∙ known) ∙ exact
+        where
+          go : (r : Reading) → held r .outcome ≡ Outcome.Refused q → answered run lent ≡ runReading input limit lent r
+          go (whole p) f = absurd (whole-not-refused (sym f))
+          go (Reading.refused q′) f = ap (λ x. answered x lent) (e ∙ ap refusedRun (same (sym f)))
+            where
+              same : _≡_ {A = Outcome} (Outcome.Refused q) (Outcome.Refused q′) → q ≡ q′
+              same z = cc
+
+      pub runnable : {l : Loaded} → l ≡ held (readFile 2 file) → Runnable l lent
+      runnable {l} read = subst (λ (x : Loaded). Runnable x lent) (sym read) (go (readFile 2 file) refl)
+        where
+          go : (r : Reading) → readFile 2 file ≡ r → Runnable (held r) lent
+          go (whole p) e =
+              let g : Good 2 p = good p e in
+              record { objects = g .objects-most; lines = most (length (p .code)) (g .code-most); memory = memory; table = table }
+            where
+              most : (n : ℕ) → within 1 2000 n ≡ true → n ≤ 2000
+              most n w = between (leb 1 n) w
+                where
+                  between : (b : Bool) → elim b [ true ↦ leb n 2000 | false ↦ false ] ≡ true → n ≤ 2000
+                  between true q = leb-true _ _ q
+                  between false q = absurd (never q)
+                    where
+                      never : _≡_ {A = Bool} false true → ⊥
+                      never z = let x : _≡_ {A = ℕ} 0 1 = cc in omega arith
+          go (Reading.refused q) e = record { objects = omega arith; lines = omega arith; memory = memory; table = table }
+
+      pub runs-whole : {l : Loaded} {x : Answer} → l ≡ held (readFile 2 file) → l .outcome ≡ Outcome.Whole → x ≡ runLoaded l input limit lent
+          → x ≡ runFile file input limit lent
+      runs-whole {l} {x} read known e =
+          e ∙ ap (λ y. runLoaded y input limit lent) read ∙ go (readFile 2 file) refl (sym (ap (λ y. y .outcome) read) ∙ known) ∙ exact
+        where
+          go : (r : Reading) → readFile 2 file ≡ r → held r .outcome ≡ Outcome.Whole → runLoaded (held r) input limit lent ≡ runReading input limit lent r
+          go (whole p) q f = runs-program p (good p q) input limit lent memory table
+          go (Reading.refused q′) q f = absurd (whole-not-refused f)

@@ -1,0 +1,209 @@
+-- The table at the start, painted object by object from arrays, is the definition's first table.
+--
+-- The arrays hold each field of the objects, the first ones from the file and the others blank, so a
+-- read at any index is the field of the object there (`field-held`). The start of a global is read off
+-- the layout, and with the layout's end at or below 28,672 every global's slots lie in the table, so
+-- that painting what the table has is painting. `paint-all` goes through the objects.
+use Prim.Native.Nat.{ℕ, zero, suc, _+_, _-_, _/_, _*_, _<_, _≤_}
+use mathlib.Core.Path.{_≡_, refl, sym, _∙_, ap}
+use mathlib.Core.Bool.{Bool, true, false}
+use mathlib.Core.List.{List, [], _∷_, _++_, map}
+use native.Mathlib.Omega.{arith}
+use native.Mathlib.Nat.{not-suc-le-zero, le-of-suc-le-suc}
+use native.Mathlib.Numerals.{add-one}
+use lib.ListN.{length, getD, drop, replicate, length-map, length-replicate}
+use lib.Seq.{drop-length}
+use lib.Dec.{leb, eqb}
+use borrow.Author.Tests.{eq-eqb, ne-eqb, eqb-true, leb-true}
+use Rattle.files.specs.declared.Object.{Object}
+use Rattle.files.specs.View.{extent}
+use Rattle.files.specs.Held.{filled}
+use Rattle.files.specs.Program.{Program}
+use Rattle.layout.specs.Layout.{Piece, pieceOf, piecesOf, startOf, endOf, layoutOf}
+use Rattle.layout.proofs.Places.{ends-below}
+use Rattle.layout.proofs.Pieces.{start-held}
+use Rattle.heap.specs.Memory.{tableSize, slot, paint}
+use Rattle.heap.specs.Heap.{heapStart, endSlot}
+use Rattle.heap.specs.Lent.{painted}
+use Rattle.heap.proofs.Exact.{painted-exact}
+use Rattle.heap.proofs.Memory.{length-fill}
+use Rattle.machine.specs.Colors.{paintGlobals, blankTable, firstTable}
+use Rattle.machine.specs.Start.{paintOne, paintHeld, laidTable}
+
+-- ---- one object, and one more
+
+module _ (table : List ℕ) (kind start size color : ℕ) where
+  pub paints : {after : List ℕ} {x : ℕ} → kind ≡ 0 → x ≡ extent size → after ≡ painted table start x color → after ≡ paintOne table kind start size color
+  paints global read e = e ∙ ap (λ n. painted table start n color) read ∙ rw (eq-eqb kind 0 global, paintOne) refl
+
+  pub paints-not : (kind ≡ 0 → ⊥) → table ≡ paintOne table kind start size color
+  paints-not site = rw (ne-eqb kind 0 site, paintOne) refl
+
+module _ (starts kinds sizes colors : List ℕ) where
+  pub paint-next : (g objects : ℕ) (table after : List ℕ) {all : List ℕ} → g < objects
+      → paintHeld starts kinds sizes colors g (objects - g) table ≡ all
+      → after ≡ paintOne table (getD kinds g 0) (getD starts g 0) (getD sizes g 0) (getD colors g 0)
+      → paintHeld starts kinds sizes colors (g + 1) (objects - (g + 1)) after ≡ all
+  unfolding paintHeld
+  paint-next g objects table after h e f =
+      let left : objects - g ≡ suc (objects - (g + 1)) = omega arith in
+      ap (paintHeld starts kinds sizes colors (g + 1) (objects - (g + 1))) f
+      ∙ sym (ap (λ n. paintHeld starts kinds sizes colors g n table) left) ∙ e
+
+  pub paint-done : (g objects : ℕ) (table : List ℕ) {all : List ℕ} → objects ≤ g
+      → paintHeld starts kinds sizes colors g (objects - g) table ≡ all → table ≡ all
+  unfolding paintHeld
+  paint-done g objects table h e =
+      let none : objects - g ≡ 0 = omega arith in
+      sym (ap (λ n. paintHeld starts kinds sizes colors g n table) none) ∙ e
+
+  -- the header's and the end slot's come last
+  pub lays : (objects : ℕ) (t₀ : List ℕ) {t₁ t₂ t₃ t₄ : List ℕ} → t₁ ≡ replicate (length t₀) 0 → t₂ ≡ paintHeld starts kinds sizes colors 0 objects t₁
+      → t₃ ≡ painted t₂ heapStart 8 1 → t₄ ≡ painted t₃ endSlot 8 1 → t₄ ≡ laidTable starts kinds sizes colors objects t₀
+  unfolding laidTable
+  lays objects t₀ e₁ e₂ e₃ e₄ =
+      e₄ ∙ ap (λ t. painted t endSlot 8 1) (e₃ ∙ ap (λ t. painted t heapStart 8 1) (e₂ ∙ ap (paintHeld starts kinds sizes colors 0 objects) e₁))
+
+-- ---- what the arrays hold
+
+abbrev pub noObject : Object
+noObject = record { kind = 0; size = 0; color = 0 }
+
+getD-map : {A : Type 0} (field : A → ℕ) (blank : A) → field blank ≡ 0 → (xs : List A) (g : ℕ) → getD (map field xs) g 0 ≡ field (getD xs g blank)
+getD-map field blank e [] g = sym e
+getD-map field blank e (x ∷ xs) zero = refl
+getD-map field blank e (x ∷ xs) (suc g) = getD-map field blank e xs g
+
+getD-zeros : (k g : ℕ) → _≡_ {A = ℕ} (getD (replicate k 0) g 0) 0
+getD-zeros zero g = refl
+getD-zeros (suc k) zero = refl
+getD-zeros (suc k) (suc g) = getD-zeros k g
+
+pub getD-padded : (xs : List ℕ) (k g : ℕ) → getD (xs ++ replicate k 0) g 0 ≡ getD xs g 0
+getD-padded [] k g = getD-zeros k g
+getD-padded (x ∷ xs) k zero = refl
+getD-padded (x ∷ xs) k (suc g) = getD-padded xs k g
+
+pub field-held : (field : Object → ℕ) → field noObject ≡ 0 → (os : List Object) (g : ℕ) → getD (filled 400 0 (map field os)) g 0 ≡ field (getD os g noObject)
+unfolding filled
+field-held field e os g = getD-padded (map field os) (400 - length (map field os)) g ∙ getD-map field noObject e os g
+
+pub length-paint : (table : List ℕ) (a n color : ℕ) → slot a + slot n ≤ length table → length (paint table a n color) ≡ length table
+length-paint table a n color h = length-fill table (slot a) (slot n) color h
+
+-- ---- all objects
+
+getD-pieces : (os : List Object) (g : ℕ) → g < length os → getD (piecesOf os) g (record { kind = 0; size = 0; safe = true }) ≡ pieceOf (getD os g noObject)
+getD-pieces [] g h = absurd (not-suc-le-zero h)
+getD-pieces (o ∷ os) zero h = refl
+getD-pieces (o ∷ os) (suc g) h = getD-pieces os g (le-of-suc-le-suc h)
+
+module _ (os : List Object) (most : length os ≤ 400) (fit : endOf (piecesOf os) ≤ 28672) where
+  abbrev starts : List ℕ
+  starts = layoutOf (piecesOf os) .starts
+
+  abbrev kinds : List ℕ
+  kinds = filled 400 0 (map (λ o. o .kind) os)
+
+  abbrev sizes : List ℕ
+  sizes = filled 400 0 (map (λ o. o .size) os)
+
+  abbrev colors : List ℕ
+  colors = filled 400 0 (map (λ o. o .color) os)
+
+  pub start-is : (g : ℕ) → g < length os → getD (layoutOf (piecesOf os) .starts) g 0 ≡ startOf (piecesOf os) g
+  start-is g h =
+      let long : length (piecesOf os) ≡ length os = length-map os pieceOf in
+      start-held (piecesOf os) g (omega arith) (omega arith)
+
+  -- the slots of object g, painted where a test says so
+  abbrev paintBy : Bool → (g : ℕ) (table : List ℕ) → List ℕ
+  paintBy b g table = elim b [ true ↦ paint table (startOf (piecesOf os) g) (extent (getD os g noObject .size)) (getD os g noObject .color) | false ↦ table ]
+
+  abbrev paintedBy : Bool → (g : ℕ) (table : List ℕ) → List ℕ
+  paintedBy b g table = elim b [ true ↦ painted table (startOf (piecesOf os) g) (extent (getD os g noObject .size)) (getD os g noObject .color) | false ↦ table ]
+
+  -- a global's slots lie in the table
+  slots-fit : (g : ℕ) → g < length os → getD os g noObject .kind ≡ 0
+      → slot (startOf (piecesOf os) g) + slot (extent (getD os g noObject .size)) ≤ 3584
+  slots-fit g h global =
+      let long : length (piecesOf os) ≡ length os = length-map os pieceOf in
+      let is : getD (piecesOf os) g (record { kind = 0; size = 0; safe = true }) ≡ pieceOf (getD os g noObject) = getD-pieces os g h in
+      let size : getD (piecesOf os) g (record { kind = 0; size = 0; safe = true }) .size ≡ getD os g noObject .size = ap (λ x. x .size) is in
+      let end : startOf (piecesOf os) g + extent (getD (piecesOf os) g (record { kind = 0; size = 0; safe = true }) .size) ≤ endOf (piecesOf os) =
+      ends-below (piecesOf os) g (omega arith) (ap (λ x. x .kind) is ∙ global) in
+      omega (arith, end, ap extent size)
+
+  -- the code's painting of one object is the definition's
+  one-same : (g : ℕ) → g < length os → (table : List ℕ) → length table ≡ tableSize
+      → paintOne table (getD kinds g 0) (getD starts g 0) (getD sizes g 0) (getD colors g 0)
+      ≡ paintBy (eqb (getD os g noObject .kind) 0) g table
+  one-same g h table long =
+      (λ i. paintOne table (field-held (λ o. o .kind) refl os g i) (start-is g h i) (field-held (λ o. o .size) refl os g i) (field-held (λ o. o .color) refl os g i))
+      ∙ go (eqb (getD os g noObject .kind) 0) refl
+    where
+      go : (b : Bool) → eqb (getD os g noObject .kind) 0 ≡ b
+          → paintedBy b g table
+          ≡ paintBy b g table
+      go true e =
+          let fits : slot (startOf (piecesOf os) g) + slot (extent (getD os g noObject .size)) ≤ 3584 = slots-fit g h (eqb-true _ _ e) in
+          painted-exact table (startOf (piecesOf os) g) (extent (getD os g noObject .size)) (getD os g noObject .color) (omega arith)
+      go false e = refl
+
+  one-long : (g : ℕ) → g < length os → (table : List ℕ) → length table ≡ tableSize
+      → length (paintBy (eqb (getD os g noObject .kind) 0) g table) ≡ tableSize
+  one-long g h table long = go (eqb (getD os g noObject .kind) 0) refl
+    where
+      go : (b : Bool) → eqb (getD os g noObject .kind) 0 ≡ b
+          → length (paintBy b g table) ≡ tableSize
+      go true e =
+          let fits : slot (startOf (piecesOf os) g) + slot (extent (getD os g noObject .size)) ≤ 3584 = slots-fit g h (eqb-true _ _ e) in
+          length-paint table (startOf (piecesOf os) g) (extent (getD os g noObject .size)) (getD os g noObject .color) (omega arith) ∙ long
+      go false e = long
+
+  -- object g is the first of those from g on
+  first-of : (g : ℕ) (o : Object) (rest : List Object) → drop g os ≡ o ∷ rest → (g < length os) × (getD os g noObject ≡ o) × (drop (g + 1) os ≡ rest)
+  first-of g o rest e = go os g e
+    where
+      go : (l : List Object) (n : ℕ) → drop n l ≡ o ∷ rest → (n < length l) × (getD l n noObject ≡ o) × (drop (n + 1) l ≡ rest)
+      go [] zero q = absurd (none q)
+        where
+          none : _≡_ {A = List Object} [] (o ∷ rest) → ⊥
+          none z = let x : _≡_ {A = ℕ} 0 1 = cc in omega arith
+      go [] (suc n) q = absurd (none q)
+        where
+          none : _≡_ {A = List Object} [] (o ∷ rest) → ⊥
+          none z = let x : _≡_ {A = ℕ} 0 1 = cc in omega arith
+      go (x ∷ xs) zero q = (omega arith, cc, cc)
+      go (x ∷ xs) (suc n) q =
+          let later : (n < length xs) × (getD xs n noObject ≡ o) × (drop (n + 1) xs ≡ rest) = go xs n q in
+          let one : suc n + 1 ≡ suc (n + 1) = omega arith in
+          (omega (arith, later .0), later .1, ap (λ k. drop k (x ∷ xs)) one ∙ later .2)
+
+  all-same : (rest : List Object) (g : ℕ) → drop g os ≡ rest → (table : List ℕ) → length table ≡ tableSize
+      → (paintHeld starts kinds sizes colors g (length rest) table ≡ paintGlobals (piecesOf os) g rest table)
+      × (length (paintGlobals (piecesOf os) g rest table) ≡ tableSize)
+  unfolding paintHeld paintGlobals
+  all-same [] g e table long = (refl, long)
+  all-same (o ∷ rest) g e table long =
+      let f : (g < length os) × (getD os g noObject ≡ o) × (drop (g + 1) os ≡ rest) = first-of g o rest e in
+      let here : paintBy (eqb (getD os g noObject .kind) 0) g table ≡ elim (eqb (o .kind) 0) [ true ↦ paint table (startOf (piecesOf os) g) (extent (o .size)) (o .color) | false ↦ table ] =
+      λ i. elim (eqb (f .1 i .kind) 0) [ true ↦ paint table (startOf (piecesOf os) g) (extent (f .1 i .size)) (f .1 i .color) | false ↦ table ] in
+      let later = all-same rest (g + 1) (f .2) (paintBy (eqb (getD os g noObject .kind) 0) g table) (one-long g (f .0) table long) in (
+        ap (paintHeld starts kinds sizes colors (g + 1) (length rest)) (one-same g (f .0) table long) ∙ later .0 ∙ ap (paintGlobals (piecesOf os) (g + 1) rest) here,
+        ap (λ t. length (paintGlobals (piecesOf os) (g + 1) rest t)) (sym here) ∙ later .1,
+      )
+
+pub laid-first : (p : Program) (table : List ℕ) → length (p .objects) ≤ 400 → endOf (piecesOf (p .objects)) ≤ 28672 → length table ≡ tableSize
+    → laidTable (layoutOf (piecesOf (p .objects)) .starts) (filled 400 0 (map (λ o. o .kind) (p .objects))) (filled 400 0 (map (λ o. o .size) (p .objects))) (filled 400 0 (map (λ o. o .color) (p .objects))) (length (p .objects)) table
+    ≡ firstTable p
+unfolding laidTable firstTable blankTable
+laid-first p table most fit long =
+    let blank : length {A = ℕ} (replicate (length table) 0) ≡ tableSize = length-replicate (length table) 0 ∙ long in
+    let all = all-same (p .objects) most fit (p .objects) 0 refl (replicate (length table) 0) blank in
+    let globals : List ℕ = paintGlobals (piecesOf (p .objects)) 0 (p .objects) (replicate (length table) 0) in
+    let header : length (paint globals heapStart 8 1) ≡ tableSize = length-paint globals heapStart 8 1 (omega (arith, all .1)) ∙ all .1 in
+    ap (λ t. painted (painted t heapStart 8 1) endSlot 8 1) (all .0)
+    ∙ ap (λ t. painted t endSlot 8 1) (painted-exact globals heapStart 8 1 (omega (arith, all .1)))
+    ∙ painted-exact (paint globals heapStart 8 1) endSlot 8 1 (omega (arith, header))
+    ∙ ap (λ n. paint (paint (paintGlobals (piecesOf (p .objects)) 0 (p .objects) (replicate n 0)) heapStart 8 1) endSlot 8 1) long

@@ -1,0 +1,69 @@
+// The run loop. It holds the decoded instructions and copies nothing but one of them in a turn.
+ghost use mathlib.Core.Path.{_≡_};
+ghost use Prim.Native.Nat.{_≤_};
+ghost use lib.ListN.{length};
+ghost use Rattle.heap.specs.Memory.{memorySize, tableSize};
+ghost use Rattle.machine.specs.Running.{Answer};
+ghost use Rattle.machine.specs.Turn.{codeOf, Low, answered, lentOf, runHeld};
+use super::Progress;
+use super::Reason;
+use super::Run;
+use super::Turn;
+use super::place::recorded;
+use super::step::step;
+use files::Line;
+
+pub fn run_code(
+    code: [Line; 2000],
+    lines: usize,
+    starts: [u32; 400],
+    colors: [u8; 400],
+    input: &[u32],
+    limit: u32,
+    memory: &mut [u8],
+    table: &mut [u8],
+    room: &mut [u32],
+) -> Run
+    requires { ⌜ (lines ≤ 2000) × (Low starts) × (length (now memory) ≡ memorySize) × (length (now table) ≡ tableSize) ⌝ }
+    ensures { λ r. ⌜ answered r (lentOf (now (memory .exit)) (now (table .exit)) (now (room .exit))) ≡ runHeld (codeOf code lines) starts colors (now (input .entry)) limit (lentOf (now (memory .entry)) (now (table .entry)) (now (room .entry))) ⌝ }
+{
+    let mut temps = [0u32; 16];
+    let mut now = Progress {
+        at: 0,
+        steps: 0,
+        out: 0,
+        taken: 0,
+    };
+    loop {
+        let at = now.at;
+        let steps = now.steps;
+        // Past the last one first, then the limit, and both before a check too.
+        if lines <= at {
+            return recorded(code, lines, now, Reason::PastEnd);
+        }
+        if limit <= steps {
+            return recorded(code, lines, now, Reason::LimitUsed);
+        }
+        let line = code[at];
+        let i = line.instr;
+        let turn = step(
+            i,
+            now,
+            &starts,
+            &colors,
+            input,
+            &mut temps,
+            memory,
+            table,
+            room,
+        );
+        match turn {
+            Turn::Stop(reason) => {
+                return recorded(code, lines, now, reason);
+            }
+            Turn::On(next) => {
+                now = next;
+            }
+        }
+    }
+}
