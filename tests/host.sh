@@ -24,8 +24,9 @@ fi
 "${rust[@]}" --edition 2021 -O -o "$out/rs" host/test.rs -C link-arg="$archive"
 passed=0 failed=0
 for host in c rs; do
-    said=$("${run[@]}" "$out/$host" | tee /dev/stderr | tail -n 1) || true
-    read -r n m <<<"$(sed -nE 's/^([0-9]+) passed, ([0-9]+) failed$/\1 \2/p' <<<"$said")"
+    said=$("${run[@]}" "$out/$host") || true
+    printf '%s\n' "$said"
+    read -r n m <<<"$(sed -nE 's/^([0-9]+) passed, ([0-9]+) failed$/\1 \2/p' <<<"$said" | tail -n 1)"
     passed=$((passed + ${n:-0})) failed=$((failed + ${m:-1}))
 done
 echo "$passed passed, $failed failed"
