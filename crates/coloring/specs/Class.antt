@@ -1,6 +1,6 @@
 -- 01, "Safe stores, classes, colors": unsafe objects and their classes, without colors. All here is
 -- said of the list of the unsafe instructions' sets.
-use Prim.Native.Nat.{ℕ, zero, suc, _+_, _<_}
+use Prim.Native.Nat.{ℕ, _+_, _<_}
 use mathlib.Core.Path.{_≡_}
 use mathlib.Core.List.{List, [], _∷_, _++_}
 use mathlib.Core.Bool.{Bool, true, false}

@@ -1,7 +1,7 @@
 -- What coloring a routine answers: the routine with the color of each object, or refusal 8.
-use Prim.Native.Nat.{ℕ, zero, suc, _+_}
+use Prim.Native.Nat.{ℕ, _+_}
 use mathlib.Core.List.{List, [], _∷_}
-use mathlib.Core.Bool.{Bool, true, false}
+use mathlib.Core.Bool.{true, false}
 use lib.ListN.{length}
 use lib.Dec.{leb}
 use Rattle.files.specs.declared.Object.{Object}

@@ -6,9 +6,9 @@
 -- runs it; that run agrees with the routine's under the plain rule, and the table that it leaves is what
 -- TableAfter says.
 use Prim.Native.Nat.{ℕ, _≤_, _<_}
-use mathlib.Core.Path.{_≡_, refl, sym, ap, _∙_, subst}
+use mathlib.Core.Path.{_≡_, sym, ap, _∙_, subst}
 use mathlib.Core.List.{List, _++_}
-use mathlib.Core.Bool.{Bool, true, false}
+use mathlib.Core.Bool.{true, false}
 use native.Mathlib.Omega.{arith}
 use lib.ListN.{length, take, drop, length-append}
 use lib.Seq.{take-at}
@@ -16,26 +16,26 @@ use borrow.Author.Tests.{le-leb, lt-leb, eq-eqb, ne-eqb}
 use Rattle.numbers.specs.declared.Refusal.{Refusal}
 use Rattle.files.specs.Program.{Program}
 use Rattle.files.specs.Reading.{Reading, whole, refusal, readFile}
-use Rattle.files.specs.Writing.{goodProgram}
-use Rattle.files.proofs.RoundTrip.{one-spelling, reads-back, good-of}
+use Rattle.files.proofs.RoundTrip.{one-spelling, good-of}
 use Rattle.coloring.specs.Unsafe.{unsafeSets}
 use Rattle.coloring.specs.Colored.{colorIn, classCount}
 use Rattle.layout.specs.Layout.{fits, piecesOf}
 use Rattle.instrumenter.specs.Instrumented.{instrumented}
 use Rattle.instrumenter.specs.declared.Instrumented.{Instrumented}
-use Rattle.instrumenter.specs.Guards.{instrument}
-use Rattle.instrumenter.specs.Guards as guards
+use Rattle.instrumenter.specs.Answer.{instrument}
+use Rattle.instrumenter.specs.Answer as instrumenting
 use Rattle.instrumenter.proofs.Answers.{fitting, newFile, Because, unread, crowded, overfull, cramped, written, answered-because}
-use Rattle.instrumenter.proofs.Exactly.{exact-colors, guards-itself}
 use Rattle.instrumenter.proofs.Instrumenting.{instrumented-good}
 use Rattle.instrumenter.proofs.ReadsBack.{Wrote, wrote}
 use Rattle.machine.specs.State.{Given}
-use Rattle.machine.specs.Runs.{Outcome, runs}
+use Rattle.machine.specs.Runs.{runs}
 use Rattle.machine.specs.Colors.{tableRule, firstTable}
-use Rattle.machine.specs.Running.{Lent, Answer, refuse, leaves, runProgram, runReading, exactLengths, runFile}
+use Rattle.machine.specs.Running.{Lent, Answer, refuse, runProgram, runReading, exactLengths, runFile}
 use Rattle.plain.specs.Plain.{plainPieces, plainRun}
+use Rattle.plain.specs.Guards.{Guards}
 use Rattle.plain.specs.Demands.{Accepted, Agree}
 use Rattle.plain.proofs.Globals.{pieces-same}
+use Rattle.plain.proofs.Itself.{exact-colors, guards-itself}
 use Rattle.plain.proofs.Same.{same-run}
 use Rattle.controller.specs.Control.{admitted, givenFor, plainAnswer, answerTo, control}
 use Rattle.controller.specs.TableAfter.{tableAfter}
@@ -45,9 +45,9 @@ one-routine : {r : Reading} (p q : Program) → r ≡ whole p → r ≡ whole q 
 one-routine p q a b = cc
 
 -- what the instrumenter's answer makes of the controller's
-abbrev pub Controls : (file input : List ℕ) (limit : ℕ) → Lent → guards.Answer → Type 0
-Controls bytes input limit lent (guards.Answer.file out) = control bytes input limit lent ≡ runFile out input limit lent
-Controls bytes input limit lent (guards.Answer.refused q) = control bytes input limit lent ≡ refuse lent q
+abbrev pub Controls : (file input : List ℕ) (limit : ℕ) → Lent → instrumenting.Answer → Type 0
+Controls bytes input limit lent (instrumenting.Answer.file out) = control bytes input limit lent ≡ runFile out input limit lent
+Controls bytes input limit lent (instrumenting.Answer.refused q) = control bytes input limit lent ≡ refuse lent q
 
 module _ (bytes input : List ℕ) (limit : ℕ) (lent : Lent) (exact : exactLengths lent ≡ true) where
   -- ---- the controller's side, stage by stage
@@ -81,7 +81,7 @@ module _ (bytes input : List ℕ) (limit : ℕ) (lent : Lent) (exact : exactLeng
       let given : Given = givenFor input limit lent in
       let back : readFile 2 (newFile p) ≡ whole q = w .back ∙ ap (λ (x : Program). whole (instrumented (colorIn x) x)) same in
       let again : fits (piecesOf (q .objects)) ≡ true = subst (λ (x : Program). fits (piecesOf (instrumented (colorIn x) x .objects)) ≡ true) same (w .again) in
-      let guarding : guards.Guards p q = subst (λ (x : Program). guards.Guards x (instrumented (colorIn x) x)) same (w .guards) in
+      let guarding : Guards p q = guards-itself p (accepted .good) (accepted .classes) in
       let agree : Agree (runs (tableRule q) given (firstTable q)) (plainRun p given) = same-run p q given accepted guarding in
       let ran : runProgram input limit lent q ≡ plainAnswer input limit lent p =
       λ i.
@@ -99,7 +99,7 @@ module _ (bytes input : List ℕ) (limit : ℕ) (lent : Lent) (exact : exactLeng
   pub controls : Controls bytes input limit lent (instrument bytes 32768)
   controls = go (instrument bytes 32768) (answered-because bytes 32768)
     where
-      go : (a : guards.Answer) → Because bytes 32768 a → Controls bytes input limit lent a
+      go : (a : instrumenting.Answer) → Because bytes 32768 a → Controls bytes input limit lent a
       go a (unread r) = answered _ r
       go a (crowded {p} r c) = answered _ r ∙ ap (answerTo input limit lent) (crowds p c)
       go a (overfull {p} r c f) = answered _ r ∙ ap (answerTo input limit lent) (overflows p c (sym (laid-same p r c) ∙ f))
@@ -137,26 +137,26 @@ module _ (bytes input : List ℕ) (limit : ℕ) (memory table room : List ℕ) w
     answer = rw long (controls bytes input limit (of memory table room) exact-lengths)
 
     -- the instrumenter refuses
-    pub refused-so : (q : Refusal) → guards.told (instrument bytes (length file)) ≡ Instrumented.Refused q
+    pub refused-so : (q : Refusal) → instrumenting.told (instrument bytes (length file)) ≡ Instrumented.Refused q
         → control bytes input limit (of memory table room) ≡ refuse (of memory table room) q
     refused-so q e = go (instrument bytes (length file)) answer e
       where
-        go : (a : guards.Answer) → Controls bytes input limit (of memory table room) a → guards.told a ≡ Instrumented.Refused q
+        go : (a : instrumenting.Answer) → Controls bytes input limit (of memory table room) a → instrumenting.told a ≡ Instrumented.Refused q
             → control bytes input limit (of memory table room) ≡ refuse (of memory table room) q
-        go (guards.Answer.file out) k e = let z : _≡_ {A = ℕ} 0 1 = cc in absurd (omega arith)
-        go (guards.Answer.refused q′) k e = let same : q′ ≡ q = cc in k ∙ ap (refuse (of memory table room)) same
+        go (instrumenting.Answer.file out) k e = let z : _≡_ {A = ℕ} 0 1 = cc in absurd (omega arith)
+        go (instrumenting.Answer.refused q′) k e = let same : q′ ≡ q = cc in k ∙ ap (refuse (of memory table room)) same
 
     -- the instrumenter writes n bytes at the front of the file's room, and the machine runs them
-    pub written-so : (n : ℕ) (after : List ℕ) → guards.told (instrument bytes (length file)) ≡ Instrumented.Written n
-        → after ≡ guards.roomHolding file (instrument bytes (length file))
+    pub written-so : (n : ℕ) (after : List ℕ) → instrumenting.told (instrument bytes (length file)) ≡ Instrumented.Written n
+        → after ≡ instrumenting.roomHolding file (instrument bytes (length file))
         → (n ≤ length after) × (runFile (take n after) input limit (of memory table room) ≡ control bytes input limit (of memory table room))
     written-so n after e h = go (instrument bytes (length file)) answer e h
       where
-        go : (a : guards.Answer) → Controls bytes input limit (of memory table room) a → guards.told a ≡ Instrumented.Written n
-            → after ≡ guards.roomHolding file a
+        go : (a : instrumenting.Answer) → Controls bytes input limit (of memory table room) a → instrumenting.told a ≡ Instrumented.Written n
+            → after ≡ instrumenting.roomHolding file a
             → (n ≤ length after) × (runFile (take n after) input limit (of memory table room) ≡ control bytes input limit (of memory table room))
-        go (guards.Answer.file out) k e h =
+        go (instrumenting.Answer.file out) k e h =
             let size : length out ≡ n = cc in
             let front : take n after ≡ out = ap (take n) h ∙ take-at out (drop (length out) file) n size in
             (rw h (simp length-append (omega arith)), ap (λ (l : List ℕ). runFile l input limit (of memory table room)) front ∙ sym k)
-        go (guards.Answer.refused q) k e h = let z : _≡_ {A = ℕ} 0 1 = cc in absurd (omega arith)
+        go (instrumenting.Answer.refused q) k e h = let z : _≡_ {A = ℕ} 0 1 = cc in absurd (omega arith)

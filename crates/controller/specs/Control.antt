@@ -3,7 +3,7 @@
 -- by TableAfter.
 use Prim.Native.Nat.{ℕ}
 use mathlib.Core.List.{List, [], _∷_, _++_}
-use mathlib.Core.Bool.{Bool, true, false}
+use mathlib.Core.Bool.{true, false}
 use lib.ListN.{length, drop}
 use lib.Dec.{leb}
 use Rattle.numbers.specs.declared.Refusal.{Refusal}
@@ -15,9 +15,7 @@ use Rattle.instrumenter.specs.declared.Instrumented.{Instrumented}
 use Rattle.machine.specs.declared.Run.{Run}
 use Rattle.machine.specs.Stop.{numberOf, placeOf}
 use Rattle.machine.specs.State.{Given}
-use Rattle.machine.specs.Runs.{Outcome}
 use Rattle.machine.specs.Running.{Lent, Answer, refuse, exactLengths}
-use Rattle.plain.specs.Live.{Live}
 use Rattle.plain.specs.Plain.{plainPieces, plainRun}
 use Rattle.controller.specs.TableAfter.{tableAfter}
 

@@ -14,7 +14,7 @@ use Rattle.files.specs.declared.InstrRead.{InstrRead}
 use Rattle.files.specs.Program.{Scope}
 use Rattle.files.specs.Reading.{Parsed, got, refused, readInstr, codeFrom}
 use Rattle.files.specs.Held.{filled, line}
-use Rattle.files.proofs.Filled.{filled-none, map-more}
+use Rattle.files.proofs.Filled.{map-more}
 
 -- one turn
 module _ (left : ℕ) (scope : Scope) (file : List ℕ) (at : ℕ) (done : List Instr) where

@@ -1,11 +1,10 @@
 -- Arrays that are filled from the front: laws for any length, so that no long list is ever computed. Assumes nothing.
-use mathlib.Core.Path.{_≡_, refl, sym, ap, _∙_}
+use mathlib.Core.Path.{_≡_, sym, ap, _∙_}
 use mathlib.Core.List.{List, [], _∷_, _++_, map, map-append, append-assoc, append-nil}
-use Prim.Native.Nat.{ℕ, zero, suc, _+_, _-_, _<_, _≤_}
+use Prim.Native.Nat.{ℕ, suc, _+_, _-_, _<_, _≤_}
 use native.Mathlib.Nat.{sub-zero, add-zero}
-use native.Mathlib.Numerals.{add-one}
 use native.Mathlib.Omega.{arith}
-use lib.ListN.{length, take, drop, set, replicate, getD, length-append, length-replicate, List·getD-append, length-map}
+use lib.ListN.{length, take, set, replicate, getD, length-append, length-replicate, List·getD-append, length-map}
 use lib.Seq.{sets, set-append-seam, take-append-seam}
 use Rattle.files.specs.Held.{filled}
 

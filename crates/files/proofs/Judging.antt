@@ -10,7 +10,7 @@ use Rattle.numbers.specs.declared.Cursor.{Cursor}
 use Rattle.numbers.specs.declared.Refusal.{Refusal}
 use Rattle.numbers.specs.declared.Read.{Read}
 use Rattle.numbers.specs.Number.{readNumber}
-use Rattle.numbers.proofs.Laws.{Spelled, spelled-of-read, read-of-spelled}
+use Rattle.numbers.proofs.Laws.{spelled-of-read, read-of-spelled}
 use Rattle.files.specs.Program.{within, isColor, mostCode}
 use Rattle.files.specs.Reading.{refusal, cursor, judge, judged}
 use Rattle.files.specs.Writing.{spellIf}

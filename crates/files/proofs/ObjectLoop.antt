@@ -3,18 +3,16 @@
 use mathlib.Core.Path.{_≡_, refl, sym, ap, _∙_}
 use mathlib.Core.List.{List, [], _∷_, _++_, map}
 use Prim.Native.Nat.{ℕ, suc, _+_, _-_, _<_, _≤_}
-use native.Mathlib.Nat.{sub-zero, sub-self}
+use native.Mathlib.Nat.{sub-zero}
 use native.Mathlib.Omega.{arith}
-use lib.ListN.{length, set, length-append, length-map}
+use lib.ListN.{length, set, length-append}
 use Rattle.numbers.specs.declared.Cursor.{Cursor}
 use Rattle.numbers.specs.declared.Refusal.{Refusal}
 use Rattle.files.specs.declared.Object.{Object}
 use Rattle.files.specs.declared.ObjectRead.{ObjectRead}
-use Rattle.files.specs.declared.Ended.{Ended}
-use Rattle.files.specs.Reading.{Parsed, got, refused, cursor, readObject, objectsFrom}
+use Rattle.files.specs.Reading.{Parsed, got, refused, readObject, objectsFrom}
 use Rattle.files.specs.Held.{filled}
-use Rattle.files.specs.Inside.{ObjectsHeld}
-use Rattle.files.proofs.Filled.{filled-none, filled-more, map-more}
+use Rattle.files.proofs.Filled.{map-more}
 
 -- one turn
 module _ (left version : ℕ) (file : List ℕ) (at : ℕ) (done : List Object) where

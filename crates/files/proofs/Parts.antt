@@ -1,6 +1,6 @@
 -- What a part's answer says of the reading that it stands for. Assumes nothing.
-use mathlib.Core.Path.{_≡_, refl, sym, ap, _∙_}
-use mathlib.Core.List.{List, [], _∷_, _++_}
+use mathlib.Core.Path.{_≡_, ap}
+use mathlib.Core.List.{List}
 use Prim.Native.Nat.{ℕ, _+_}
 use native.Mathlib.Omega.{arith}
 use lib.ListN.{length}
@@ -15,7 +15,7 @@ use Rattle.files.specs.declared.reading.SetRead.{SetRead}
 use Rattle.files.specs.declared.reading.Sets.{Sets}
 use Rattle.files.specs.declared.reading.Code.{Code}
 use Rattle.files.specs.Reading.{Parsed, got, refused, cursor}
-use Rattle.files.specs.Inside.{Are, ObjectsHeld, ObjectsAre, SetHeld, SetIs, SetsHeld, SetsAre, CodeHeld, CodeIs}
+use Rattle.files.specs.Inside.{Are, ObjectsHeld, ObjectsAre, SetIs, SetsHeld, SetsAre, CodeHeld, CodeIs}
 
 -- ---- one set
 

@@ -1,14 +1,12 @@
 -- Bytes put into a room from a place on, one run after the other. Assumes nothing.
 use mathlib.Core.Path.{_≡_, refl, sym, ap, _∙_}
 use mathlib.Core.List.{List, [], _∷_, _++_, append-nil}
-use Prim.Native.Nat.{ℕ, suc, _+_, _-_, _<_, _≤_}
+use Prim.Native.Nat.{ℕ, _+_, _-_, _≤_}
 use native.Mathlib.Omega.{arith}
-use lib.ListN.{length, drop, take, length-append}
+use lib.ListN.{length, drop, length-append}
 use lib.Seq.{sets, length-sets, sets-eq}
 use Rattle.files.specs.Writing.{spellAll}
-use Rattle.files.specs.Held.{tabulate}
 use Rattle.files.proofs.Filled.{sets-append}
-use Rattle.files.proofs.Measuring.{tabulate-more, tabulate-none, tabulate-all}
 
 -- these bytes were put in, and the next place is behind them
 pub record Put (before : List ℕ) (at : ℕ) (bytes after : List ℕ) (place : ℕ) : Type 0 where

@@ -4,27 +4,26 @@
 -- The file is cut into its six pieces (version, count and objects, sets, count and instructions). Each
 -- piece has its two laws in SpelledNumbers, SpelledObjects, SpelledInstructions and SpelledLists; here they are put side by side, in
 -- the order of `readFile`'s stages.
-use Prim.Native.Nat.{ℕ, zero, suc, _+_, _^_, _<_, _≤_}
+use Prim.Native.Nat.{ℕ, _+_, _^_, _<_, _≤_}
 use mathlib.Core.Path.{_≡_, refl, sym, ap, _∙_, subst, subst₂}
-use mathlib.Core.List.{List, [], _∷_, _++_, append-assoc, append-nil}
+use mathlib.Core.List.{List, [], _∷_, _++_, append-nil}
 use mathlib.Core.Bool.{Bool, true, false}
 use native.Mathlib.Omega.{arith}
-use lib.ListN.{length, drop, length-append, length-map}
+use lib.ListN.{length, length-map}
 use lib.Seq.{drop-length}
-use lib.Dec.{eqb, leb, ltb}
+use lib.Dec.{eqb, leb}
 use borrow.Author.Tests.{eqb-true, leb-true, le-leb, eq-eqb}
-use Rattle.numbers.specs.declared.Cursor.{Cursor}
 use Rattle.numbers.specs.declared.Read.{Read}
 use Rattle.numbers.specs.Number.{spell}
 use Rattle.files.specs.declared.Object.{Object}
 use Rattle.files.specs.declared.Instr.{Instr}
 use Rattle.files.specs.Program.{Program, Scope, hasSets, mostCode, longest, within, kindsOf}
-use Rattle.files.specs.Reading.{Parsed, got, Reading, whole, cursor, judged, readFile, afterVersion, afterObjectCount, afterObjects, afterSetCount, afterSets, afterCodeCount, afterCode, objectsFrom, setsFrom, codeFrom}
+use Rattle.files.specs.Reading.{Parsed, got, Reading, whole, judged, readFile, afterVersion, afterObjectCount, afterObjects, afterSetCount, afterSets, afterCodeCount, afterCode, objectsFrom, setsFrom, codeFrom}
 use Rattle.files.specs.Writing.{spellFile, spellAll, spellObject, spellSet, spellSets, spellInstr, every, goodObject, goodSet, goodSets, goodInstr, goodProgram, scopeOf, both}
 use Rattle.files.proofs.SpelledNumbers.{Stands, stands-nil, stands-append, stands-split, Judged, judged-of-read, read-of-judged}
 use Rattle.files.proofs.SpelledObjects.{both-true, both-left, both-right, within-bounds, within-true}
 use Rattle.files.proofs.SpelledInstructions.{Bounded}
-use Rattle.files.proofs.SpelledLists.{Several, objects-of-read, read-of-objects, sets-of-read, read-of-sets, code-of-read, read-of-code}
+use Rattle.files.proofs.SpelledLists.{objects-of-read, read-of-objects, sets-of-read, read-of-sets, code-of-read, read-of-code}
 
 -- ---- what a good program says, piece by piece
 

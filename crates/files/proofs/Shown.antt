@@ -1,6 +1,6 @@
 -- The program that arrays show, as the measuring pass judges it. Assumes nothing.
 use mathlib.Core.Path.{_≡_, refl, sym, ap, ap₂, _∙_}
-use mathlib.Core.List.{List, [], _∷_, _++_, map}
+use mathlib.Core.List.{List, [], _∷_, _++_}
 use mathlib.Core.Bool.{Bool, true, false}
 use Prim.Native.Nat.{ℕ, zero, suc, _+_, _<_, _≤_}
 use native.Mathlib.Omega.{arith}
@@ -9,13 +9,12 @@ use lib.Seq.{drop-cons, length-take-le}
 use lib.Dec.{leb}
 use borrow.Author.Tests.{le-leb, lt-leb}
 use Rattle.numbers.specs.Number.{spell, width}
-use Rattle.files.specs.declared.Object.{Object}
 use Rattle.files.specs.declared.Line.{Line}
 use Rattle.files.specs.declared.Scope as declared
-use Rattle.files.specs.Program.{Program, Scope, within, kindsOf}
+use Rattle.files.specs.Program.{Program, within, kindsOf}
 use Rattle.files.specs.Writing.{spellAll, spellObject, spellInstr, spellFile, every, both, goodObject, goodInstr, scopeOf, goodProgram}
 use Rattle.files.specs.Held.{tabulate}
-use Rattle.files.specs.Inside.{objectIn, scopeOver, shownIn, sayable}
+use Rattle.files.specs.Inside.{objectIn, scopeOver, shownIn}
 use Rattle.files.proofs.Measuring.{both-no, both-then}
 use Rattle.files.proofs.SpelledObjects.{both-are}
 

@@ -1,17 +1,14 @@
 -- Several things one after the other: what is read is what is spelled there. `many` reads k things by
 -- any reader of one; objects, sets and instructions are read by it (`objects-many`, `sets-many`,
 -- `code-many`); a set's members have a law of their own, since each bounds the next.
-use Prim.Native.Nat.{ℕ, zero, suc, _+_, _^_, _<_, _≤_}
+use Prim.Native.Nat.{ℕ, zero, suc, _+_, _^_, _<_}
 use mathlib.Core.Path.{_≡_, refl, sym, ap, _∙_, subst₂}
 use mathlib.Core.List.{List, [], _∷_, _++_, append-assoc, append-nil}
 use mathlib.Core.Bool.{Bool, true, false}
 use native.Mathlib.Omega.{arith}
-use native.Mathlib.Numerals.{add-one}
-use lib.ListN.{length, drop, length-append}
-use lib.Seq.{append-snoc}
-use lib.Dec.{eqb, leb, ltb}
-use borrow.Author.Tests.{leb-true, ltb-true}
-use Rattle.numbers.specs.declared.Cursor.{Cursor}
+use lib.ListN.{length}
+use lib.Dec.{leb, ltb}
+use borrow.Author.Tests.{ltb-true}
 use Rattle.numbers.specs.declared.Read.{Read}
 use Rattle.numbers.specs.Number.{spell}
 use Rattle.files.specs.declared.Object.{Object}
@@ -21,8 +18,8 @@ use Rattle.files.specs.declared.InstrRead.{InstrRead}
 use Rattle.files.specs.Program.{Scope, within}
 use Rattle.files.specs.Reading.{Parsed, got, cursor, judged, readObject, objectsFrom, readSet, afterMemberCount, membersFrom, setsFrom, readInstr, codeFrom}
 use Rattle.files.specs.Writing.{spellAll, spellObject, spellSet, spellInstr, every, goodObject, goodSet, goodInstr, rising, both}
-use Rattle.files.proofs.SpelledNumbers.{Stands, stands-nil, stands-append, stands-split, Judged, judged-of-read, read-of-judged}
-use Rattle.files.proofs.SpelledObjects.{both-true, both-left, both-right, within-bounds, within-true, object-of-read, read-of-object}
+use Rattle.files.proofs.SpelledNumbers.{Stands, stands-nil, stands-append, stands-split, judged-of-read, read-of-judged}
+use Rattle.files.proofs.SpelledObjects.{both-true, both-left, both-right, within-bounds, object-of-read, read-of-object}
 use Rattle.files.proofs.SpelledInstructions.{Bounded, instr-of-read, read-of-instr}
 
 unfoldable pub many : {A : Type 0} → (one : ℕ → Parsed A) → (left at : ℕ) → (done : List A) → Parsed (List A)

@@ -2,21 +2,19 @@
 -- there. `Stands file at bytes next` says that the bytes stand in the file from `at` up to `next`. Each
 -- law about a reader comes in two directions: what is read stands there and is good (`..-of-read`), and
 -- what is good and stands there is read (`read-of-..`).
-use Prim.Native.Nat.{ℕ, zero, suc, _+_, _^_, _<_, _≤_}
-use mathlib.Core.Path.{_≡_, refl, sym, ap, _∙_, subst}
-use mathlib.Core.List.{List, [], _∷_, _++_, append-assoc, append-nil}
+use Prim.Native.Nat.{ℕ, _+_, _^_, _<_}
+use mathlib.Core.Path.{_≡_, refl, sym, ap, _∙_}
+use mathlib.Core.List.{List, [], _++_, append-assoc}
 use mathlib.Core.Bool.{Bool, true, false}
 use native.Mathlib.Omega.{arith}
-use native.Mathlib.Nat.{add-zero, add-assoc}
 use lib.ListN.{length, drop, length-append}
 use lib.Seq.{drop-drop, drop-append-seam}
 use lib.Dec.{eqb}
 use borrow.Author.Tests.{eqb-true}
 use Rattle.numbers.specs.declared.Cursor.{Cursor}
-use Rattle.numbers.specs.declared.Refusal.{Refusal}
 use Rattle.numbers.specs.declared.Read.{Read}
-use Rattle.numbers.specs.Number.{spell, width, readNumber}
-use Rattle.numbers.proofs.Laws.{Spelled, spelled-of-read, read-of-spelled}
+use Rattle.numbers.specs.Number.{spell, readNumber}
+use Rattle.numbers.proofs.Laws.{spelled-of-read, read-of-spelled}
 use Rattle.files.specs.Reading.{judge, judged, cursor, refusal}
 use Rattle.files.specs.Writing.{spellIf}
 

@@ -1,12 +1,10 @@
 -- The whole file, part by part: each part that was read leads to the next, and the first refusal is the file's.
 -- Assumes nothing.
 use mathlib.Core.Path.{_≡_, refl, sym, ap, ap₂, _∙_}
-use mathlib.Core.List.{List, map}
+use mathlib.Core.List.{List}
 use mathlib.Core.Bool.{Bool, true, false}
 use Prim.Native.Nat.{ℕ, _≤_, _<_}
-use native.Mathlib.Omega.{arith}
 use lib.ListN.{length, take, length-map}
-use lib.Dec.{eqb}
 use borrow.Author.Tests.{le-leb, lt-leb, eq-eqb, ne-eqb}
 use Rattle.numbers.specs.declared.Cursor.{Cursor}
 use Rattle.numbers.specs.declared.Refusal.{Refusal}
@@ -15,16 +13,15 @@ use Rattle.files.specs.declared.Object.{Object}
 use Rattle.files.specs.declared.Instr.{Instr}
 use Rattle.files.specs.declared.Outcome.{Outcome}
 use Rattle.files.specs.declared.Ended.{Ended}
-use Rattle.files.specs.declared.Loaded.{Loaded}
 use Rattle.files.specs.declared.reading.Objects.{Objects}
 use Rattle.files.specs.declared.reading.Sets.{Sets}
 use Rattle.files.specs.declared.reading.Code.{Code}
-use Rattle.files.specs.Program.{Program, kindsOf, hasSets, longest, mostCode, within}
-use Rattle.files.specs.Reading.{Parsed, got, refused, Reading, whole, refusal, judged, afterVersion, afterObjectCount, afterObjects, afterSetCount, afterSets, afterCodeCount, afterCode, readFile}
-use Rattle.files.specs.Held.{filled, held, heldAs}
+use Rattle.files.specs.Program.{kindsOf, hasSets, longest, mostCode, within}
+use Rattle.files.specs.Reading.{got, refused, Reading, whole, refusal, judged, afterVersion, afterObjectCount, afterObjects, afterSetCount, afterSets, afterCodeCount, afterCode, readFile}
+use Rattle.files.specs.Held.{held, heldAs}
 use Rattle.files.specs.Inside.{objectsAfter, objectsBehind, objectsOf, setsAfter, setsOf, codeAfter, codeOf, ObjectsAre, ObjectsHeld, SetsAre, SetsHeld, CodeIs, CodeHeld}
 use Rattle.files.proofs.Filled.{take-filled}
-use Rattle.files.proofs.Parts.{Ends, objects-read, objects-refused, sets-read, sets-refused, code-read, code-refused}
+use Rattle.files.proofs.Parts.{objects-read, objects-refused, sets-read, sets-refused, code-read, code-refused}
 
 -- ---- the definition, part by part
 

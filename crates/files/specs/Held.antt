@@ -5,7 +5,6 @@ use mathlib.Core.Bool.{Bool, true, false}
 use lib.ListN.{length, getD, take, drop, replicate}
 use lib.Seq.{sets}
 use lib.Dec.{leb}
-use Rattle.numbers.specs.declared.Refusal.{Refusal}
 use Rattle.files.specs.declared.Object.{Object}
 use Rattle.files.specs.declared.Instr.{Instr}
 use Rattle.files.specs.declared.Line.{Line}

@@ -24,7 +24,7 @@ use Rattle.files.specs.declared.writing.Coded.{Coded}
 use Rattle.files.specs.declared.writing.Length.{Length}
 use Rattle.files.specs.Table.{rowOf, Parts}
 use Rattle.files.specs.Program
-use Rattle.files.specs.Program.{hasSets, mostCode, within, kindsOf}
+use Rattle.files.specs.Program.{hasSets, mostCode, within}
 use Rattle.files.specs.Reading.{Parsed, got, refused, refusal, cursor, judged, objectsFrom, setsFrom, codeFrom}
 use Rattle.files.specs.Writing.{spellAll, spellObject, spellInstr, every, both, goodObject, goodInstr, goodProgram}
 use Rattle.files.specs.Held.{filled, line, endsFrom, joined, tabulate}

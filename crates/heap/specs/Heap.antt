@@ -1,10 +1,9 @@
 -- 01, "Memory and table": headers, the walk, ALLOC and FREE on memory. What they do to the table, or to
 -- the live objects of the plain rule, is said by what is made and freed here.
-use Prim.Native.Nat.{ℕ, zero, suc, _+_, _-_, _*_, _/_, _%_}
-use mathlib.Core.List.{List, [], _∷_, _++_}
+use Prim.Native.Nat.{ℕ, zero, suc, _+_, _-_, _%_}
+use mathlib.Core.List.{List, [], _∷_}
 use mathlib.Core.Bool.{Bool, true, false}
-use lib.ListN.{length, getD}
-use lib.Dec.{ltb, leb, eqb}
+use lib.Dec.{leb, eqb}
 use Rattle.files.specs.View.{extent}
 use Rattle.heap.specs.Memory.{bytesOf, numberAt, put, fill, paint}
 

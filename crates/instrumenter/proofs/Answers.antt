@@ -14,7 +14,7 @@ use Rattle.files.specs.Writing.{spellFile}
 use Rattle.coloring.specs.Colored.{tinted, withColors, colorIn, classCount, colored}
 use Rattle.layout.specs.Layout.{piecesOf, fits}
 use Rattle.instrumenter.specs.Instrumented.{instrumented}
-use Rattle.instrumenter.specs.Guards.{Answer, file, laidOut, accepted, roomFor, answerFor, instrument}
+use Rattle.instrumenter.specs.Answer.{Answer, file, laidOut, accepted, roomFor, answerFor, instrument}
 use Rattle.instrumenter.proofs.Recolored.{recolored-in}
 
 -- whether the globals fit, and the file of version 2

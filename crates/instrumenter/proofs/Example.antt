@@ -11,7 +11,7 @@ use Rattle.coloring.specs.Colored.{tinted, colored}
 use Rattle.coloring.specs.Unsafe.{setsIn}
 use Rattle.layout.specs.Layout.{total}
 use Rattle.instrumenter.specs.Instrumented.{guarded, spanOf, newPlace, instrumented}
-use Rattle.instrumenter.specs.Guards.{Answer, file, instrument}
+use Rattle.instrumenter.specs.Answer.{Answer, file, instrument}
 
 -- "Routine A"
 unfoldable pub routineA : List ℕ

@@ -1,4 +1,4 @@
--- Version 2 of a routine under exact colors is a program that a file of version 2 says.
+-- Version 2 of a routine under colors that a file can say is a program that a file of version 2 says.
 use Prim.Native.Nat.{ℕ, _≤_}
 use native.Mathlib.Omega.{arith}
 use mathlib.Core.Path.{_≡_, sym}
@@ -14,17 +14,16 @@ use Rattle.coloring.specs.Colored.{tinted, colorIn, classCount}
 use Rattle.coloring.proofs.Tinted.{tinted-length}
 use Rattle.layout.specs.Layout.{piecesOf, fits}
 use Rattle.instrumenter.specs.Instrumented.{guarded, newPlace, instrumented}
-use Rattle.instrumenter.specs.Guards.{Exact}
 use Rattle.instrumenter.proofs.Good.{both-true, within-true, Good, good-of, lines-bounds}
-use Rattle.instrumenter.proofs.Exactly.{exact-colors}
+use Rattle.instrumenter.proofs.FileColors.{FileColors, file-colors}
 use Rattle.instrumenter.proofs.Spans.{length-guarded, span-most, span-least, place-inside}
 use Rattle.instrumenter.proofs.Operands.{in-range, is-color, good-tinted, kinds-tinted, newScope, good-guarded}
 use Rattle.instrumenter.proofs.Lengths.{file-longer}
 
-module _ (p : Program) (color : ℕ → ℕ) (good : goodProgram 1 p ≡ true) (exact : Exact (unsafeSets p) color) where
-  pub exactly-good : goodProgram 2 (instrumented color p) ≡ true
+module _ (p : Program) (color : ℕ → ℕ) (good : goodProgram 1 p ≡ true) (colors : FileColors (unsafeSets p) color) where
+  pub colored-good : goodProgram 2 (instrumented color p) ≡ true
   unfolding goodProgram instrumented
-  exactly-good =
+  colored-good =
       let r : Good 1 p = good-of 1 p good in
       let lines = lines-bounds p r in
       let code = guarded color p (newPlace color p) (p .code) in
@@ -32,19 +31,19 @@ module _ (p : Program) (color : ℕ → ℕ) (good : goodProgram 1 p ≡ true) (
       let kinds : kindsOf objects ≡ kindsOf (p .objects) = kinds-tinted color 0 (p .objects) in
       let scope = scopeOf 2 (instrumented color p) in
       let a : leb (length objects) 400 ≡ true = le-leb (length objects) 400 (rw tinted-length (r .objects-most)) in
-      let b : every (goodObject 2) objects ≡ true = good-tinted color (is-color p color exact) 0 (p .objects) (r .objects) in
+      let b : every (goodObject 2) objects ≡ true = good-tinted color (is-color p color colors) 0 (p .objects) (r .objects) in
       let upto : length code ≤ 2000 = omega (arith, length-guarded color p (newPlace color p) (p .code), span-most color p (p .code), lines .1) in
       let from : 1 ≤ length code = omega (arith, length-guarded color p (newPlace color p) (p .code), span-least color p (p .code), lines .0) in
       let d : within 1 2000 (length code) ≡ true = within-true 1 2000 (length code) from upto in
       let e : every (goodInstr (newScope p (length code))) code ≡ true =
       good-guarded p r (length code) (newPlace color p)
       (λ t h. lt-ltb (newPlace color p t) (length code) (place-inside color p (newPlace color p) t (ltb-true t (length (p .code)) h)))
-      color (p .code) (r .code) (in-range p color exact)
+      color (p .code) (r .code) (in-range p color colors)
       in
       let e′ : every (goodInstr scope) code ≡ true =
       mathlib.Core.Path.subst (λ (ks : List ℕ). every (goodInstr (record { version = 2; kinds = ks; sets = 0; code = length code })) code ≡ true) (sym kinds) e
       in
-      let l : length (spellFile 2 (instrumented color p)) ≤ 32768 = omega (arith, file-longer color (exact .high) p, r .objects-most, lines .1, r .short) in
+      let l : length (spellFile 2 (instrumented color p)) ≤ 32768 = omega (arith, file-longer color (colors .high) p, r .objects-most, lines .1, r .short) in
       let f : leb (length (spellFile 2 (instrumented color p))) 32768 ≡ true = le-leb (length (spellFile 2 (instrumented color p))) 32768 l in
       both-true (leb (length objects) 400) _ a
       (both-true (every (goodObject 2) objects) _ b
@@ -54,4 +53,4 @@ module _ (p : Program) (color : ℕ → ℕ) (good : goodProgram 1 p ≡ true) (
 -- for every routine that is accepted: what a file says, with at most 254 classes and globals that fit
 pub instrumented-good : (p : Program) → goodProgram 1 p ≡ true → classCount p ≤ 254 → fits (piecesOf (tinted (colorIn p) 0 (p .objects))) ≡ true
     → goodProgram 2 (instrumented (colorIn p) p) ≡ true
-instrumented-good p good few fitting = exactly-good p (colorIn p) good (exact-colors p good few)
+instrumented-good p good few fitting = colored-good p (colorIn p) good (file-colors p good few)

@@ -1,11 +1,10 @@
 -- What the crate promises, and what carries it.
 --
 -- Every file and every room get 01's answer (`instrument`): the contract is an equation with the
--- definition `instrument` of specs/Guards.antt, and the room afterwards is the one it says. Two answers
+-- definition `instrument` of specs/Answer.antt, and the room afterwards is the one it says. Two answers
 -- that meet it are equal (`one-answer` in `Told`).
 --
 -- About the definitions, for the crates above:
---   version 2 of an accepted routine guards it                        `guards-itself` in `Exactly`
 --   a file of version 2 can say it: 2,000 instructions, 32,768 bytes  `instrumented-good` in `Instrumenting`
 --   what is written reads back as exactly that code, never 9 again    `instrument-reads-back` in `ReadsBack`
 --   each answer has its reason, and each reason its answer            `answered-because`, `answers` in `Answers`
@@ -18,7 +17,7 @@
 -- (`Told`).
 pub mod Good
 pub mod Inside
-pub mod Exactly
+pub mod FileColors
 pub mod Spans
 pub mod Operands
 pub mod Lengths

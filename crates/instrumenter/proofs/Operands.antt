@@ -18,7 +18,7 @@ use Rattle.coloring.specs.Unsafe.{safeAim, setOf, unsafeSet, setsIn, unsafeSets
 use Rattle.coloring.specs.Class.{unsafeObject}
 use Rattle.coloring.specs.Colored.{tinted}
 use Rattle.instrumenter.specs.Instrumented.{colorOfSet, checkOf, moved, guarded}
-use Rattle.instrumenter.specs.Guards.{Exact}
+use Rattle.instrumenter.proofs.FileColors.{FileColors}
 use Rattle.coloring.proofs.Members.{no-test}
 use Rattle.instrumenter.proofs.Good.{both-left, both-right, both-true, within-true, Good, every-head, every-tail, every-cons, every-append}
 use Rattle.instrumenter.proofs.Inside.{GoodStore, good-store, store-unsafe, unsafe-later}
@@ -26,18 +26,18 @@ use Rattle.instrumenter.proofs.Spans.{check-safe, check-unsafe}
 
 -- ---- objects
 
-module _ (p : Program) (color : ℕ → ℕ) (exact : Exact (unsafeSets p) color) where
+module _ (p : Program) (color : ℕ → ℕ) (colors : FileColors (unsafeSets p) color) where
   pub in-range : (x : ℕ) → unsafeObject (unsafeSets p) x ≡ true → within 2 255 (color x) ≡ true
-  in-range x h = within-true 2 255 (color x) (exact .low x h) (exact .high x)
+  in-range x h = within-true 2 255 (color x) (colors .low x h) (colors .high x)
 
   pub is-color : (x : ℕ) → isColor (color x) ≡ true
   is-color x = go (unsafeObject (unsafeSets p) x) refl
     where
       go : (b : Bool) → unsafeObject (unsafeSets p) x ≡ b → isColor (color x) ≡ true
       go true e =
-          let l : 2 ≤ color x = exact .low x e in
+          let l : 2 ≤ color x = colors .low x e in
           simp (ne-eqb (color x) 0 (λ (z : color x ≡ 0). omega arith), isColor) (in-range x e)
-      go false e = let z : color x ≡ 0 = exact .safe x e in simp (eq-eqb (color x) 0 z, isColor)
+      go false e = let z : color x ≡ 0 = colors .safe x e in simp (eq-eqb (color x) 0 z, isColor)
 
 module _ (color : ℕ → ℕ) (is : (x : ℕ) → isColor (color x) ≡ true) where
   pub good-tinted : (from : ℕ) (os : List Object) → every (goodObject 1) os ≡ true → every (goodObject 2) (tinted color from os) ≡ true

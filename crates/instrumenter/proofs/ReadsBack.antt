@@ -11,10 +11,9 @@ use Rattle.files.specs.Writing.{goodProgram}
 use Rattle.coloring.specs.Colored.{colorIn, classCount}
 use Rattle.layout.specs.Layout.{piecesOf, fits}
 use Rattle.instrumenter.specs.Instrumented.{instrumented}
-use Rattle.instrumenter.specs.Guards.{Guards, Answer, file, instrument}
+use Rattle.instrumenter.specs.Answer.{Answer, file, instrument}
 use native.Mathlib.Omega.{arith}
 use Rattle.instrumenter.proofs.Good.{one-spelling, reads-back}
-use Rattle.instrumenter.proofs.Exactly.{guards-itself}
 use Rattle.instrumenter.proofs.Instrumenting.{instrumented-good}
 use Rattle.instrumenter.proofs.Answers.{fitting, newFile, Because, unread, crowded, overfull, cramped, written, answered-because}
 
@@ -30,8 +29,7 @@ pub record Wrote (bytes : List ℕ) (room : ℕ) (out : List ℕ) : Type 0 where
   pub spelled : out ≡ newFile routine
   pub short : length out ≤ room
   pub back : readFile 2 out ≡ whole (instrumented (colorIn routine) routine)
-  -- it guards the routine, and its globals fit: never 9 again
-  pub guards : Guards routine (instrumented (colorIn routine) routine)
+  -- its globals fit: never 9 again
   pub again : fits (piecesOf (instrumented (colorIn routine) routine .objects)) ≡ true
 
 pub wrote : (bytes : List ℕ) (room : ℕ) (p : Program) → readFile 1 bytes ≡ whole p → classCount p ≤ 254 → fitting p ≡ true
@@ -48,7 +46,6 @@ wrote bytes room p r c f l =
       spelled = refl;
       short = l;
       back = reads-back 2 (omega arith) (instrumented (colorIn p) p) (instrumented-good p g c f);
-      guards = guards-itself p g c f;
       again = f;
     }
 

@@ -24,7 +24,7 @@ use Rattle.files.specs.declared.InstrRead.{InstrRead}
 use Rattle.files.specs.Table.{rowOf}
 use Rattle.files.specs.Program.{Scope, hasColors, hasSets, mostCode, longest, within, isColor, kindsOf, present, allowed, lastOpcode}
 use Rattle.files.specs.Reading.{Parsed, got, refused, refusal, cursor, judge, judged, afterColor, colorAt, afterSize, sizeAt, afterKind, readObject, objectsFrom, membersFrom, afterMemberCount, readSet, setsFrom, operandAt, afterThird, afterSecond, afterFirst, afterOpcode, readInstr, codeFrom, Reading, whole, afterCode, afterCodeCount, afterSets, afterSetCount, afterObjects, afterObjectCount, afterVersion, readFile}
-use Rattle.instrumenter.specs.Guards.{Answer, file, instrument}
+use Rattle.instrumenter.specs.Answer.{Answer, file, instrument}
 use Rattle.instrumenter.proofs.Answers.{Because, unread, crowded, overfull, cramped, written, refused-only-for}
 
 -- a refusal with its place, in a file that is read as a version

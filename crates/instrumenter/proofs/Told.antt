@@ -25,7 +25,7 @@ use Rattle.layout.specs.declared.Layout.{Layout}
 use Rattle.layout.specs.Layout.{piecesOf, piecesIn, endOf, layoutOf}
 use Rattle.layout.proofs.Pieces.{pieces-held}
 use Rattle.instrumenter.specs.declared.Instrumented.{Instrumented}
-use Rattle.instrumenter.specs.Guards.{Answer, file, laidOut, answerFor, instrument, roomHolding, told}
+use Rattle.instrumenter.specs.Answer.{Answer, file, laidOut, answerFor, instrument, roomHolding, told}
 use Rattle.instrumenter.specs.Arrays.{Version2}
 use Rattle.instrumenter.proofs.Good.{one-spelling, good-of, lines-bounds}
 use Rattle.instrumenter.proofs.Instrumenting.{instrumented-good}

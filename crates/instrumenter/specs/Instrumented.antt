@@ -1,18 +1,14 @@
 -- 01, "Version 2 of a routine", for any numbers that the objects are given as colors.
 use Prim.Native.Nat.{ℕ, _+_}
 use mathlib.Core.List.{List, [], _∷_, _++_}
-use mathlib.Core.Bool.{Bool, true, false}
+use mathlib.Core.Bool.{true, false}
 use lib.ListN.{length, getD, take}
-use lib.Dec.{leb}
 use Rattle.files.specs.declared.Instr.{Instr}
 use Rattle.files.specs.declared.Instr.the-variants.{End, Place, Add, Sub, Less, Load8, Load32, Put8, Put32, Write8, Write32, Jump, JumpIf, Alloc, Free, In, Out, Check8, Check32, CheckPut8, CheckPut32}
 use Rattle.files.specs.Program.{Program}
-use Rattle.files.specs.Reading.{Reading, whole, refusal}
-use Rattle.files.specs.Writing.{spellFile}
-use Rattle.files.specs.View.{Aim, View, act, jump, jumpIf, store, check, view, checkInstr}
+use Rattle.files.specs.View.{View, act, jump, jumpIf, store, check, view, checkInstr}
 use Rattle.coloring.specs.Unsafe.{safeAim, setOf}
-use Rattle.coloring.specs.Colored.{tinted, colored}
-use Rattle.layout.specs.Layout.{piecesOf, fits}
+use Rattle.coloring.specs.Colored.{tinted}
 
 -- "an instruction's class is that of its set": the color of the set's lowest object
 abbrev pub colorOfSet : (color : ℕ → ℕ) → List ℕ → ℕ

@@ -1,3 +1,3 @@
 pub mod Instrumented
-pub mod Guards
+pub mod Answer
 pub mod Arrays

@@ -15,7 +15,7 @@ use passes::new_places;
 ghost use mathlib.Core.Path.{_≡_};
 ghost use Prim.Native.Nat.{_≤_};
 ghost use lib.ListN.{length};
-ghost use Rattle.instrumenter.specs.Guards.{instrument, told, roomHolding};
+ghost use Rattle.instrumenter.specs.Answer.{instrument, told, roomHolding};
 ghost use Rattle.instrumenter.specs.Arrays.{Version2};
 
 // What instrumenting answers.

@@ -4,7 +4,7 @@
 -- where there is no object; starts agree for every object that there is. An accepted file names no other
 -- (`names-objects`, from the reader's law that what is read is good), so every turn is the same turn and
 -- every run the same run.
-use Prim.Native.Nat.{ℕ, zero, suc, _+_, _*_, _<_, _≤_}
+use Prim.Native.Nat.{ℕ, zero, suc, _+_, _<_}
 use mathlib.Core.Path.{_≡_, refl, sym, _∙_, ap}
 use mathlib.Core.Bool.{Bool, true, false}
 use mathlib.Core.List.{List, [], _∷_}
@@ -12,18 +12,14 @@ use native.Mathlib.Omega.{arith}
 use native.Mathlib.Nat.{not-suc-le-zero, le-of-suc-le-suc}
 use lib.ListN.{length, getD, set, length-map}
 use lib.Dec.{ltb, eqb}
-use borrow.Author.Tests.{ltb-true, ltb-false, lt-ltb, le-ltb}
-use Rattle.files.specs.declared.Object.{Object}
+use borrow.Author.Tests.{ltb-true, ltb-false}
 use Rattle.files.specs.declared.Instr.{Instr}
-use Rattle.files.specs.declared.Operand.{Operand}
-use Rattle.files.specs.Program.{Program, Scope, isKind, kindsOf}
-use Rattle.files.specs.Table.{partsOf}
-use Rattle.files.specs.View.{Width, Aim, inGlobal, atTemp, Act, View, act, jump, jumpIf, store, check, view}
+use Rattle.files.specs.Program.{Program, isKind, kindsOf}
+use Rattle.files.specs.View.{Aim, inGlobal, atTemp, Act, View, act, jump, jumpIf, store, check, view}
 use Rattle.files.specs.Writing.{both, every, goodInstr, scopeOf}
 use Rattle.heap.specs.Heap.{Made, Freed, Alloc, Free, alloc}
-use Rattle.machine.specs.declared.Reason.{Reason}
-use Rattle.machine.specs.State.{Rule, Given, State, temp, addressOf}
-use Rattle.machine.specs.Step.{Effect, Next, stop, next, conclude, allocating, perform, step, becomes}
+use Rattle.machine.specs.State.{Rule, Given, State, temp}
+use Rattle.machine.specs.Step.{Next, stop, next, conclude, allocating, perform, step, becomes}
 use Rattle.machine.specs.Runs.{Outcome, stopped, runFrom}
 use Rattle.machine.proofs.Steps.{step-past, step-limit, step-goes}
 

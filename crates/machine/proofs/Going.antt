@@ -7,24 +7,24 @@
 -- held at the start; `Going` carries that the part behind is still the first room's. What holds after a
 -- turn is computed from what the turn answers (`AfterTurn`), so that the code's own answer is followed
 -- by one transport.
-use Prim.Native.Nat.{ℕ, zero, suc, _+_, _-_, _*_, _<_, _≤_, min}
+use Prim.Native.Nat.{ℕ, zero, suc, _+_, _-_, _*_, _<_, _≤_}
 use mathlib.Core.Path.{_≡_, refl, sym, _∙_, ap, subst}
-use mathlib.Core.List.{List, [], _∷_, _++_}
+use mathlib.Core.List.{List, _++_}
 use mathlib.Core.Logic.{⊎-elim}
 use native.Mathlib.Omega.{arith}
-use lib.ListN.{length, getD, take, drop, replicate, length-append, length-drop, take-append-drop}
+use lib.ListN.{length, getD, take, drop, replicate, length-append, take-append-drop}
 use lib.Seq.{length-take-le, take-at, drop-at, drop-drop}
 use Rattle.files.specs.declared.Instr.{Instr}
-use Rattle.files.specs.View.{View, view}
+use Rattle.files.specs.View.{view}
 use Rattle.heap.specs.Memory.{memorySize, tableSize}
 use Rattle.machine.specs.declared.Reason.{Reason}
 use Rattle.machine.specs.declared.Progress.{Progress}
 use Rattle.machine.specs.declared.Turn.{Turn}
 use Rattle.machine.specs.State.{Rule, Given, State}
 use Rattle.machine.specs.Step.{Next, stop, next, perform, step}
-use Rattle.machine.specs.Runs.{Outcome, stopped, runFrom}
+use Rattle.machine.specs.Runs.{stopped, runFrom}
 use Rattle.machine.specs.Running.{Lent, Answer, leaves}
-use Rattle.machine.specs.Turn.{heldRule, Held, held, stateOf, Turned, turned, progressOf, landed, turnOf, recordOf, lentOf, answered, runHeld}
+use Rattle.machine.specs.Turn.{heldRule, Held, held, stateOf, Turned, progressOf, landed, turnOf, recordOf, lentOf, answered, runHeld}
 use Rattle.machine.proofs.Steps.{step-past, step-limit, step-goes}
 use Rattle.machine.proofs.Turns.{turn-on, turn-stop, Forth, forth, weight, lighter}
 

@@ -1,12 +1,11 @@
 -- Each instruction, one law, from the equation that says which instruction it is.
 use Prim.Native.Nat.{ℕ, _+_, _-_, _%_, _^_}
 use mathlib.Core.Path.{_≡_, refl, _∙_, ap}
-use mathlib.Core.Bool.{Bool, true, false}
 use mathlib.Core.List.{List}
 use lib.ListN.{getD, set}
 use lib.Dec.{ltb}
 use Rattle.files.specs.declared.Instr.{Instr}
-use Rattle.files.specs.View.{Width, Aim, inGlobal, atTemp, Act, act, check}
+use Rattle.files.specs.View.{Width, inGlobal, atTemp, Act, check}
 use Rattle.heap.specs.Memory.{everyByte, hasColor}
 use Rattle.heap.specs.Lent.{within, loaded, stored, allocated}
 use Rattle.machine.specs.declared.Reason.{Reason}

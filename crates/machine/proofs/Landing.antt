@@ -7,20 +7,19 @@
 -- own numbers. Where an instruction has a test, the code and the definition make the same one: the law
 -- is said for any Bool, both cases at once, and then cited at the test; for ALLOC and FREE the same
 -- goes for what the heap answers. Only OUT changes the room.
-use Prim.Native.Nat.{ℕ, _+_, _-_, _%_, _^_, _<_, _≤_}
+use Prim.Native.Nat.{ℕ, _+_, _-_, _<_}
 use mathlib.Core.Path.{_≡_, refl, sym, _∙_, ap}
 use mathlib.Core.Bool.{Bool, true, false}
 use mathlib.Core.List.{List, [], _∷_, _++_}
 use native.Mathlib.Omega.{arith}
 use native.Mathlib.Numerals.{add-one}
-use lib.ListN.{length, getD, set, take, drop, length-append, length-set, take-append-drop}
+use lib.ListN.{length, getD, set, take, drop, length-append, take-append-drop}
 use lib.Seq.{length-take-le, take-suc-set, drop-set-lt, set-out}
 use lib.Dec.{ltb, leb, eqb}
-use borrow.Author.Tests.{eq-eqb, lt-ltb, le-ltb, ltb-true, ltb-false}
+use borrow.Author.Tests.{eq-eqb, ltb-true, ltb-false}
 use Rattle.files.specs.declared.Instr.{Instr}
-use Rattle.files.specs.View.{View, Act, act, store, check, Aim}
+use Rattle.files.specs.View.{View, Act, act, store, Aim}
 use Rattle.heap.specs.declared.Load.{Load}
-use Rattle.heap.specs.declared.Allocation.{Allocation}
 use Rattle.heap.specs.declared.Release.{Release}
 use Rattle.heap.specs.Memory.{memorySize, tableSize, bytesOf, numberAt, put, everyByte, hasColor}
 use Rattle.heap.specs.Heap.{Alloc, Free, alloc, free}
@@ -29,8 +28,8 @@ use Rattle.machine.specs.declared.Reason.{Reason}
 use Rattle.machine.specs.declared.Progress.{Progress}
 use Rattle.machine.specs.declared.Turn.{Turn}
 use Rattle.machine.specs.State.{Rule, Given, State, temp}
-use Rattle.machine.specs.Step.{Effect, stops, passes, completes, Next, stop, next, conclude, perform, allocating, freeing}
-use Rattle.machine.specs.Turn.{heldRule, Held, held, stateOf, Turned, turned, landed, turnOf, Ready, onward, toPlace, passed, jumpsTo, inputTurn, inputTemps, outputTurn, loadTurn, loadTemps, storeTurn, checkTurn, allocTurn, allocTemps, releaseTurn, freeAt}
+use Rattle.machine.specs.Step.{Effect, stops, passes, completes, stop, next, conclude, allocating, freeing}
+use Rattle.machine.specs.Turn.{heldRule, Held, held, stateOf, Turned, turned, landed, turnOf, Ready, onward, toPlace, inputTurn, inputTemps, outputTurn, loadTurn, loadTemps, storeTurn, checkTurn, allocTurn, allocTemps, releaseTurn, freeAt}
 
 -- what a turn is given
 pub record Here : Type 0 where

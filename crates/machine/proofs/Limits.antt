@@ -1,12 +1,11 @@
 -- Of every run: the steps are at most the limit, and the instruction that stops changes nothing.
-use Prim.Native.Nat.{ℕ, zero, suc, _+_, _*_, _<_, _≤_}
+use Prim.Native.Nat.{ℕ, zero, suc, _+_, _≤_}
 use mathlib.Core.Path.{_≡_, refl, sym, _∙_, ap, subst}
 use mathlib.Core.Logic.{⊎-elim}
 use mathlib.Core.Bool.{Bool, true, false}
 use mathlib.Core.List.{List}
 use native.Mathlib.Omega.{arith}
 use lib.ListN.{length, getD}
-use lib.Dec.{ltb}
 use Rattle.files.specs.declared.Instr.{Instr}
 use Rattle.files.specs.View.{view}
 use Rattle.files.specs.Program.{Program}
@@ -14,7 +13,7 @@ use Rattle.files.specs.Reading.{Reading, whole, refusal, readFile}
 use Rattle.layout.specs.Layout.{piecesOf, fits}
 use Rattle.machine.specs.declared.Reason.{Reason}
 use Rattle.machine.specs.State.{Rule, Given, State, startState}
-use Rattle.machine.specs.Step.{Next, stop, next, step, perform}
+use Rattle.machine.specs.Step.{Next, stop, next, step}
 use Rattle.machine.specs.Runs.{Outcome, stopped, runFrom, turnsFor, runs}
 use Rattle.machine.specs.Colors.{tableRule, firstTable}
 use Rattle.machine.specs.Running.{Lent, Answer, refuse, runProgram, runReading, exactLengths, runFile}

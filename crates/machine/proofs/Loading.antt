@@ -9,14 +9,12 @@ use mathlib.Core.Path.{_≡_, refl, sym, _∙_, ap, subst}
 use mathlib.Core.Bool.{Bool, true, false}
 use mathlib.Core.List.{List, [], _∷_, _++_, map}
 use native.Mathlib.Omega.{arith}
-use native.Mathlib.Nat.{not-suc-le-zero, le-of-suc-le-suc}
-use lib.ListN.{length, getD, take, drop, replicate, length-map, List·getD-eq-default}
+use lib.ListN.{length, getD, take, replicate, length-map, List·getD-eq-default}
 use lib.Seq.{take-at}
-use lib.Dec.{ltb, leb, eqb}
+use lib.Dec.{ltb, leb}
 use borrow.Author.Tests.{leb-true, ltb-true, ltb-false, eq-eqb, ne-eqb, le-leb, lt-leb}
 use Rattle.numbers.specs.declared.Refusal.{Refusal}
 use Rattle.files.specs.declared.Instr.{Instr}
-use Rattle.files.specs.declared.Line.{Line}
 use Rattle.files.specs.declared.Outcome.{Outcome}
 use Rattle.files.specs.declared.Loaded.{Loaded}
 use Rattle.files.specs.Program.{Program, within}
@@ -24,7 +22,7 @@ use Rattle.files.specs.Reading.{Reading, whole, refusal, readFile}
 use Rattle.files.specs.Held.{filled, tabulate, line, heldAs, held}
 use Rattle.files.proofs.RoundTrip.{Good, good-of, one-spelling}
 use Rattle.layout.specs.declared.Layout.{Layout}
-use Rattle.layout.specs.Layout.{Piece, piecesOf, piecesIn, counted, startOf, endOf, fits, total, safeSpace, unsafeSpace, unsafeFrom, layoutOf}
+use Rattle.layout.specs.Layout.{Piece, piecesOf, startOf, endOf, fits, total, safeSpace, unsafeSpace, unsafeFrom, layoutOf}
 use Rattle.layout.proofs.Pieces.{length-tabulate, getD-tabulate, pieces-held}
 use Rattle.heap.specs.Memory.{memorySize, tableSize}
 use Rattle.heap.specs.Heap.{paintMade, paintFreed, emptyHeap}
@@ -35,10 +33,10 @@ use Rattle.machine.specs.Stop.{refusedRun}
 use Rattle.machine.specs.State.{Given, State, blankMemory, startState}
 use Rattle.machine.specs.Runs.{runFrom, runs}
 use Rattle.machine.specs.Colors.{tableAllows, colorOfObject, tableRule, firstTable}
-use Rattle.machine.specs.Running.{Lent, Answer, refuse, leaves, runProgram, runReading, exactLengths, runFile}
+use Rattle.machine.specs.Running.{Lent, Answer, refuse, leaves, runProgram, runReading, runFile}
 use Rattle.machine.specs.Turn.{heldRule, Low, codeOf, lentOf, answered, runHeld}
 use Rattle.machine.specs.Start.{piecesHeld, laidTable, Runnable, runLoaded}
-use Rattle.machine.proofs.Starting.{noObject, field-held, getD-padded, start-is, laid-first}
+use Rattle.machine.proofs.Starting.{field-held, getD-padded, start-is, laid-first}
 use Rattle.machine.proofs.Agreeing.{same-runs, agrees}
 
 -- ---- starts are low

@@ -4,22 +4,20 @@
 -- read at any index is the field of the object there (`field-held`). The start of a global is read off
 -- the layout, and with the layout's end at or below 28,672 every global's slots lie in the table, so
 -- that painting what the table has is painting. `paint-all` goes through the objects.
-use Prim.Native.Nat.{ℕ, zero, suc, _+_, _-_, _/_, _*_, _<_, _≤_}
+use Prim.Native.Nat.{ℕ, zero, suc, _+_, _-_, _<_, _≤_}
 use mathlib.Core.Path.{_≡_, refl, sym, _∙_, ap}
 use mathlib.Core.Bool.{Bool, true, false}
 use mathlib.Core.List.{List, [], _∷_, _++_, map}
 use native.Mathlib.Omega.{arith}
 use native.Mathlib.Nat.{not-suc-le-zero, le-of-suc-le-suc}
-use native.Mathlib.Numerals.{add-one}
 use lib.ListN.{length, getD, drop, replicate, length-map, length-replicate}
-use lib.Seq.{drop-length}
-use lib.Dec.{leb, eqb}
-use borrow.Author.Tests.{eq-eqb, ne-eqb, eqb-true, leb-true}
+use lib.Dec.{eqb}
+use borrow.Author.Tests.{eq-eqb, ne-eqb, eqb-true}
 use Rattle.files.specs.declared.Object.{Object}
 use Rattle.files.specs.View.{extent}
 use Rattle.files.specs.Held.{filled}
 use Rattle.files.specs.Program.{Program}
-use Rattle.layout.specs.Layout.{Piece, pieceOf, piecesOf, startOf, endOf, layoutOf}
+use Rattle.layout.specs.Layout.{pieceOf, piecesOf, startOf, endOf, layoutOf}
 use Rattle.layout.proofs.Places.{ends-below}
 use Rattle.layout.proofs.Pieces.{start-held}
 use Rattle.heap.specs.Memory.{tableSize, slot, paint}

@@ -1,10 +1,10 @@
 -- A turn for any rule: how a run goes on with it, and that it goes forward: a completed instruction costs
 -- a step, a check goes on by one, and numbers out stay.
-use Prim.Native.Nat.{ℕ, zero, suc, _+_, _-_, _*_, _<_, _≤_, min}
-use mathlib.Core.Path.{_≡_, refl, sym, _∙_, ap}
+use Prim.Native.Nat.{ℕ, suc, _+_, _-_, _*_, _<_, _≤_, min}
+use mathlib.Core.Path.{_≡_, refl}
 use mathlib.Core.Logic.{_⊎_, inl, inr}
 use mathlib.Core.Bool.{Bool, true, false}
-use mathlib.Core.List.{List, [], _∷_, _++_}
+use mathlib.Core.List.{[], _∷_, _++_}
 use native.Mathlib.Omega.{arith}
 use lib.ListN.{length, length-append}
 use lib.Dec.{ltb, eqb}
@@ -14,7 +14,7 @@ use Rattle.heap.specs.Heap.{Alloc, Free, alloc, free}
 use Rattle.machine.specs.declared.Reason.{Reason}
 use Rattle.machine.specs.State.{Rule, Given, State, temp, addressOf}
 use Rattle.machine.specs.Step.{Effect, stops, passes, completes, Next, stop, next, conclude, allocating, freeing, actEffect, effect, lets, perform, step, widthOf}
-use Rattle.machine.specs.Runs.{Outcome, stopped, runFrom}
+use Rattle.machine.specs.Runs.{stopped, runFrom}
 
 module _ {S : Type 0} (rule : Rule S) (given : Given) where
   -- ---- one turn of a run

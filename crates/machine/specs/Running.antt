@@ -1,6 +1,6 @@
 -- What running a version 2 file answers, for any bytes, input, room, limit and lent buffers.
 use Prim.Native.Nat.{ℕ, _+_}
-use mathlib.Core.List.{List, [], _∷_, _++_}
+use mathlib.Core.List.{List, _++_}
 use mathlib.Core.Bool.{Bool, true, false}
 use lib.ListN.{length, drop}
 use lib.Dec.{eqb}
@@ -11,7 +11,6 @@ use Rattle.layout.specs.Layout.{piecesOf, fits}
 use Rattle.heap.specs.Memory.{memorySize, tableSize}
 use Rattle.machine.specs.declared.Run.{Run}
 use Rattle.machine.specs.Stop.{refusedRun}
-use Rattle.machine.specs.State.{Rule, Given}
 use Rattle.machine.specs.Runs.{Outcome, runs}
 use Rattle.machine.specs.Colors.{tableRule, firstTable}
 

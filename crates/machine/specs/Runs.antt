@@ -6,7 +6,7 @@ use Rattle.machine.specs.declared.Reason.{Reason}
 use Rattle.machine.specs.declared.Run.{Run}
 use Rattle.machine.specs.Stop.{placeIn}
 use Rattle.machine.specs.State.{Rule, Given, State, startState}
-use Rattle.machine.specs.Step.{Next, stop, next, step}
+use Rattle.machine.specs.Step.{stop, next, step}
 
 -- "A run gives reason, place, steps, numbers out, numbers taken", and it leaves the numbers themselves,
 -- memory and the rule's own state

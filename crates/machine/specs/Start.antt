@@ -2,13 +2,13 @@
 use Prim.Native.Nat.{ℕ, zero, suc, _+_, _≤_}
 use mathlib.Core.Path.{_≡_}
 use mathlib.Core.List.{List}
-use mathlib.Core.Bool.{Bool, true, false}
+use mathlib.Core.Bool.{true, false}
 use lib.ListN.{length, getD, replicate}
-use lib.Dec.{leb, eqb}
+use lib.Dec.{eqb}
 use Rattle.files.specs.declared.Loaded.{Loaded}
 use Rattle.files.specs.View.{extent}
 use Rattle.files.specs.Reading.{refusal}
-use Rattle.layout.specs.Layout.{Piece, piecesIn, layoutOf, endOf, fits}
+use Rattle.layout.specs.Layout.{Piece, piecesIn, layoutOf, fits}
 use Rattle.heap.specs.Memory.{memorySize, tableSize}
 use Rattle.heap.specs.Heap.{heapStart, endSlot}
 use Rattle.heap.specs.Lent.{painted, started}

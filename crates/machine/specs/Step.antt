@@ -1,13 +1,13 @@
 -- 01, "Running" and the table of opcodes: one step. The rule is asked first, the effect comes after.
-use Prim.Native.Nat.{ℕ, zero, suc, _+_, _-_, _%_, _^_, _*_}
+use Prim.Native.Nat.{ℕ, _+_, _-_, _%_, _^_}
 use mathlib.Core.List.{List, [], _∷_, _++_}
 use mathlib.Core.Bool.{Bool, true, false}
 use lib.ListN.{length, getD, set}
-use lib.Dec.{ltb, leb, eqb}
+use lib.Dec.{ltb, eqb}
 use Rattle.files.specs.declared.Instr.{Instr}
-use Rattle.files.specs.View.{Width, Aim, inGlobal, atTemp, bytes, Act, View, act, jump, jumpIf, store, check, view}
+use Rattle.files.specs.View.{Aim, inGlobal, atTemp, bytes, Act, View, act, jump, jumpIf, store, check, view}
 use Rattle.heap.specs.Memory.{bytesOf, numberAt, put, inside}
-use Rattle.heap.specs.Heap.{Made, Freed, Alloc, Free, alloc, free}
+use Rattle.heap.specs.Heap.{Alloc, Free, alloc, free}
 use Rattle.machine.specs.declared.Reason.{Reason}
 use Rattle.machine.specs.State.{Rule, Given, State, temp, addressOf}
 

@@ -1,7 +1,6 @@
 -- 01, "Numbers that come back": the number of each way to stop, and what a stop's record holds.
-use Prim.Native.Nat.{ℕ, zero, suc, _+_}
+use Prim.Native.Nat.{ℕ, _+_}
 use mathlib.Core.List.{List, [], _∷_}
-use mathlib.Core.Bool.{Bool, true, false}
 use lib.ListN.{take}
 use Rattle.numbers.specs.declared.Refusal.{Refusal}
 use Rattle.files.specs.declared.Instr.{Instr}

@@ -8,7 +8,7 @@ use lib.ListN.{length, getD, set, take, drop, replicate}
 use lib.Dec.{ltb, eqb}
 use Rattle.files.specs.declared.Instr.{Instr}
 use Rattle.files.specs.declared.Line.{Line}
-use Rattle.files.specs.View.{View, view}
+use Rattle.files.specs.View.{view}
 use Rattle.heap.specs.Memory.{memorySize, tableSize}
 use Rattle.heap.specs.Heap.{paintMade, paintFreed}
 use Rattle.heap.specs.declared.Load.{Load}
@@ -18,7 +18,7 @@ use Rattle.heap.specs.Lent.{After, released}
 use Rattle.machine.specs.declared.Reason.{Reason}
 use Rattle.machine.specs.declared.Progress.{Progress}
 use Rattle.machine.specs.declared.Turn.{Turn}
-use Rattle.machine.specs.State.{Rule, Given, State}
+use Rattle.machine.specs.State.{Rule, State}
 use Rattle.machine.specs.Step.{Next, stop, next, perform}
 use Rattle.machine.specs.Stop.{placeIn}
 use Rattle.machine.specs.declared.Run.{Run}

@@ -6,8 +6,6 @@ use mathlib.Core.Bool.{Bool, true, false}
 use lib.ListN.{length, getD}
 use lib.Seq.{sets}
 use lib.Dec.{ltb, leb, eqb}
-use Rattle.numbers.specs.declared.Cursor.{Cursor}
-use Rattle.numbers.specs.declared.Refusal.{Refusal}
 use Rattle.numbers.specs.declared.Read.{Read}
 use Rattle.numbers.specs.declared.Read.the-variants.{Number, Refused}
 use Rattle.numbers.specs.declared.Written.{Written}

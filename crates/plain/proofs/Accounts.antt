@@ -6,21 +6,19 @@
 -- and whose used blocks are the recorded bodies; the blocks fill the heap.
 use Prim.Native.Nat.{ℕ, _+_, _*_}
 use native.Mathlib.Omega.{arith}
-use mathlib.Core.Path.{_≡_, sym, _∙_, ap₂, subst}
+use mathlib.Core.Path.{_≡_, _∙_, ap₂, subst}
 use mathlib.Core.List.{List, []}
 use mathlib.Core.Bool.{true}
 use lib.ListN.{length}
 use Rattle.files.specs.Program.{Program}
-use Rattle.coloring.specs.Unsafe.{unsafeSets}
 use Rattle.layout.specs.Layout.{fits}
-use Rattle.instrumenter.specs.Instrumented.{instrumented}
-use Rattle.instrumenter.specs.Guards.{Exact}
 use Rattle.heap.specs.Heap.{heapStart, endSlot}
 use Rattle.plain.proofs.HeapAlloc.{tied-walk}
 use Rattle.machine.specs.State.{Given, State, startState}
 use Rattle.machine.specs.Colors.{tableRule, firstTable}
 use Rattle.plain.specs.Live.{Live, accountOf, account, liveBytes, freeBytes}
 use Rattle.plain.specs.Plain.{plainPieces}
+use Rattle.plain.specs.Guards.{Guards}
 use Rattle.plain.specs.Demands.{Reaches, recording, HeapAccounts}
 use Rattle.plain.proofs.Good.{Good, good}
 use Rattle.plain.proofs.Bodies.{liveOf, live-account}
@@ -35,19 +33,17 @@ holds-account p color live own m h =
     live-account color m (own .0) (h .blocks) heapStart endSlot (h .tied .segment) in
     ap₂ accountOf (h .recorded ∙ h .bodies) (tied-walk color m (own .0) (h .blocks) (h .tied)) ∙ omega arith
 
-module _ (p : Program) (color : ℕ → ℕ) (given : Given) (exact : Exact (unsafeSets p) color) (good : Good p) (fitting : fits (plainPieces p) ≡ true) where
-  accounts : (r : State (List ℕ × List Live)) → Reaches (recording (tableRule (instrumented color p))) given (startState (firstTable (instrumented color p), [])) r
+module _ (p q : Program) (guards : Guards p q) (given : Given) (good : Good p) (fitting : fits (plainPieces p) ≡ true) where
+  accounts : (r : State (List ℕ × List Live)) → Reaches (recording (tableRule q)) given (startState (firstTable q, [])) r
       → account (r .own .1) (r .memory) ≡ 28664
-  unfolding tableRule instrumented
-  accounts r way = go (through p color given exact good fitting way)
+  unfolding tableRule
+  accounts r way = go (through p q guards given good fitting way)
     where
-      go : Through p color given exact good fitting r → account (r .own .1) (r .memory) ≡ 28664
-      go (Through.tied s own is h) = subst (λ x. account (x .own .1) (x .memory) ≡ 28664) is (holds-account p color (s .own) own (s .memory) h)
-      go (Through.behind s own aim b v bytes is h g) = subst (λ x. account (x .own .1) (x .memory) ≡ 28664) is (holds-account p color (s .own) own (s .memory) h)
+      go : Through p q guards given good fitting r → account (r .own .1) (r .memory) ≡ 28664
+      go (Through.tied s own is h) = subst (λ x. account (x .own .1) (x .memory) ≡ 28664) is (holds-account p (guards .color) (s .own) own (s .memory) h)
+      go (Through.behind s own aim b v bytes is h g) = subst (λ x. account (x .own .1) (x .memory) ≡ 28664) is (holds-account p (guards .color) (s .own) own (s .memory) h)
 
 -- "In instrumented code, after every step, the live bodies that the history of calls gives, the free
 -- bodies and eight for each header make 28,664"
 pub heap-accounts : HeapAccounts
-heap-accounts p q given accepted guards =
-    subst (λ x. (state : State (List ℕ × List Live)) → Reaches (recording (tableRule x)) given (startState (firstTable x, [])) state → account (state .own .1) (state .memory) ≡ 28664)
-    (sym (guards .form)) (accounts p (guards .color) given (guards .exact) (good p (accepted .good)) (accepted .fitting))
+heap-accounts p q given accepted guards = accounts p q guards given (good p (accepted .good)) (accepted .fitting)

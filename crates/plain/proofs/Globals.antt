@@ -18,7 +18,7 @@ use Rattle.coloring.specs.Class.{unsafeObject}
 use Rattle.coloring.specs.Colored.{tinted}
 use Rattle.layout.specs.Layout.{Piece, piecesOf, startOf, endOf, fits}
 use Rattle.layout.proofs.Places.{pieceAt, extentAt, start-whole, ends-below, globals-apart}
-use Rattle.instrumenter.specs.Guards.{Exact}
+use Rattle.plain.specs.Guards.{Exact}
 use Rattle.machine.specs.Colors.{paintGlobals}
 use Rattle.heap.specs.Heap.{heapStart}
 use Rattle.plain.specs.Live.{Live, owns}

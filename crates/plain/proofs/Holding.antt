@@ -22,7 +22,7 @@ use borrow.Author.Tests.{ltb-true, ltb-false, ne-eqb}
 use Rattle.files.specs.Program.{Program}
 use Rattle.coloring.specs.Unsafe.{unsafeSets}
 use Rattle.coloring.specs.Class.{unsafeObject}
-use Rattle.instrumenter.specs.Guards.{Exact}
+use Rattle.plain.specs.Guards.{Exact}
 use Rattle.heap.specs.Memory.{memorySize, colorAt, put, everyByte}
 use Rattle.heap.specs.Heap.{heapStart, endSlot, Block, Made, Freed, paintMade, paintFreed}
 use Rattle.heap.proofs.Memory.{length-put, put-outside, everyByte-same}

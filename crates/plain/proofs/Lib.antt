@@ -7,6 +7,7 @@
 --   Accounts    heap-accounts
 --   Untouched   headers-kept, unowned-kept: a store changes no header, no guard, no free body
 --   Exactly     check-passes-exactly: a check passes where the plain rule lets its store through
+--   Itself      guards-itself: version 2 of an accepted routine guards it
 --
 -- What carries them:
 --   Lockstep    one step of the routine is one step of version 2, or a check and its store
@@ -19,6 +20,7 @@
 --   Painting    objects painted one after the other
 --   Globals     the globals' places, and the first table below the heap
 --   Places      an instruction has the same place in both versions
+--   Standing    what stands at an instruction's place in version 2
 --   Aims        what a store of an accepted routine aims at
 --   Good        what an accepted routine's instructions may name
 --   Recorded    recording the live bodies changes no run
@@ -37,6 +39,7 @@ pub mod Holding
 pub mod Start
 pub mod Aims
 pub mod Rules
+pub mod Standing
 pub mod Lockstep
 pub mod Places
 pub mod Same
@@ -44,3 +47,4 @@ pub mod Through
 pub mod Accounts
 pub mod Untouched
 pub mod Exactly
+pub mod Itself

@@ -9,7 +9,7 @@ use mathlib.Core.Bool.{Bool, true, false, false≢true}
 use lib.Dec.{eqb, leb, ltb}
 use borrow.Author.Tests.{eq-eqb, ne-eqb, leb-true, ltb-true, le-leb, lt-ltb}
 use Rattle.coloring.specs.Class.{unsafeObject, sameClass}
-use Rattle.instrumenter.specs.Guards.{Exact}
+use Rattle.plain.specs.Guards.{Exact}
 use Rattle.plain.specs.Live.{Live, owns, someLive}
 
 -- ---- what holds of each object of a list

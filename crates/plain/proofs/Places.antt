@@ -1,61 +1,85 @@
 -- "A place counts the instructions before it that are not checks": so an instruction's place is the same
 -- in version 2 as in the routine.
-use Prim.Native.Nat.{ℕ, _+_}
+use Prim.Native.Nat.{ℕ, zero, suc, _+_, _<_, _≤_}
+use native.Mathlib.Numerals.{add-one}
 use native.Mathlib.Omega.{arith}
-use mathlib.Core.Path.{_≡_, refl, sym, _∙_, ap, ap₂}
+use mathlib.Core.Path.{_≡_, refl, sym, _∙_, ap}
 use mathlib.Core.List.{List, [], _∷_, _++_}
 use mathlib.Core.Bool.{Bool, true, false}
-use lib.ListN.{take, drop, take-append-drop}
-use lib.Seq.{take-at}
+use lib.ListN.{length, getD, take}
+use lib.Dec.{ltb}
+use lib.Seq.{take-suc, take-all}
+use borrow.Author.Tests.{ltb-true, ltb-false}
 use Rattle.files.specs.declared.Instr.{Instr}
 use Rattle.files.specs.Program.{Program}
-use Rattle.files.specs.View.{Aim, View, act, jump, jumpIf, store, check, view, checkInstr}
-use Rattle.coloring.specs.Unsafe.{safeAim, setOf}
-use Rattle.instrumenter.specs.Instrumented.{checkOf, moved, guarded, newPlace, colorOfSet}
-use Rattle.instrumenter.proofs.Guarded.{movedView, view-moved, view-check, guarded-append, code₂, before₂, length-before₂}
+use Rattle.files.specs.View.{View, act, jump, jumpIf, store, check, view}
+use Rattle.coloring.specs.Unsafe.{setOf}
+use Rattle.instrumenter.specs.Instrumented.{colorOfSet, moved}
+use Rattle.instrumenter.proofs.Guarded.{movedView, view-moved, view-check}
 use Rattle.machine.specs.Stop.{counts, placesIn, placeIn}
+use Rattle.plain.specs.Guards.{instrAt, Stands, Guards}
 
-one-check : (aim : Aim) (c : ℕ) (rest : List Instr) → placesIn (checkInstr aim c ∷ rest) ≡ placesIn rest
+one-more : (xs : List Instr) (x : Instr) → placesIn (xs ++ x ∷ []) ≡ placesIn xs + counts (view x)
 unfolding placesIn
-one-check aim c rest =
-    let e : counts (view (checkInstr aim c)) ≡ 0 = ap counts (view-check aim c) in
-    omega (arith, e)
+one-more [] x = omega arith
+one-more (y ∷ ys) x = omega (arith, one-more ys x)
 
-module _ (color : ℕ → ℕ) (p : Program) where
-  -- a check counts for nothing
-  checks-count : (v : View) (rest : List Instr) → placesIn (checkOf color p v ++ rest) ≡ placesIn rest
-  checks-count (act x) rest = refl
-  checks-count (jump t) rest = refl
-  checks-count (jumpIf a t) rest = refl
-  checks-count (store aim b s) rest = go (safeAim p aim)
+-- the place behind an instruction
+place-behind : (code : List Instr) (n : ℕ) → n < length code → placeIn code (n + 1) ≡ placeIn code n + counts (view (getD code n Instr.End))
+place-behind code n inside =
+    ap (placeIn code) (add-one n) ∙ ap placesIn (take-suc code n Instr.End inside) ∙ one-more (take n code) (getD code n Instr.End)
+
+place-past : (code : List Instr) (n : ℕ) → length code ≤ n → placeIn code n ≡ placesIn code
+place-past code n past = ap placesIn (take-all n code past)
+
+-- what is moved counts as it did
+moved-count : (target : ℕ → ℕ) (i : Instr) → counts (view (moved target i)) ≡ counts (view i)
+moved-count target i = ap counts (view-moved target i) ∙ go (view i)
+  where
+    go : (v : View) → counts (movedView target v) ≡ counts v
+    go (act x) = refl
+    go (jump t) = refl
+    go (jumpIf a t) = refl
+    go (store aim b s) = refl
+    go (check aim c) = refl
+
+module _ (p q : Program) (guards : Guards p q) where
+  abbrev place : ℕ → ℕ
+  place = guards .place
+
+  -- an instruction and its check together count as the instruction
+  stands-count : (k : ℕ) → Stands p q (guards .color) place (guards .target) k
+      → placeIn (q .code) (place (k + 1)) ≡ placeIn (q .code) (place k) + counts (view (instrAt p k))
+  stands-count k (Stands.alone none inside is next) =
+      ap (placeIn (q .code)) next
+      ∙ place-behind (q .code) (place k) inside
+      ∙ ap (λ i. placeIn (q .code) (place k) + counts (view i)) is
+      ∙ ap (λ n. placeIn (q .code) (place k) + n) (moved-count (guards .target) (instrAt p k))
+  stands-count k (Stands.behind aim b s e unsafe inside guard is next) =
+      let two : place (k + 1) ≡ place k + 1 + 1 = omega (arith, next) in
+      let its : ℕ = colorOfSet (guards .color) (setOf p aim s) in
+      let nothing : counts (view (instrAt q (place k))) ≡ 0 = ap (λ i. counts (view i)) guard ∙ ap counts (view-check aim its) in
+      let copy : counts (view (instrAt q (place k + 1))) ≡ counts (view (instrAt p k)) = ap (λ i. counts (view i)) is ∙ moved-count (guards .target) (instrAt p k) in
+      ap (placeIn (q .code)) two
+      ∙ omega (arith, place-behind (q .code) (place k + 1) inside, place-behind (q .code) (place k) (omega arith), nothing, copy)
+
+  pub place-same : (k : ℕ) → placeIn (q .code) (place k) ≡ placeIn (p .code) k
+  unfolding placesIn
+  place-same zero = ap (placeIn (q .code)) (guards .first)
+  place-same (suc k) = go (ltb k (length (p .code))) refl (place-same k)
     where
-      one : (c : ℕ) → placesIn (checkInstr aim c ∷ rest) ≡ placesIn rest
-      one c = one-check aim c rest
-
-      go : (t : Bool) → placesIn (elim t [ true ↦ [] | false ↦ checkInstr aim (colorOfSet color (setOf p aim s)) ∷ [] ] ++ rest) ≡ placesIn rest
-      go true = refl
-      go false = one (colorOfSet color (setOf p aim s))
-  checks-count (check aim c) rest = refl
-
-  -- what is moved counts as it did
-  moved-count : (target : ℕ → ℕ) (v : View) → counts (movedView target v) ≡ counts v
-  moved-count target (act x) = refl
-  moved-count target (jump t) = refl
-  moved-count target (jumpIf a t) = refl
-  moved-count target (store aim b s) = refl
-  moved-count target (check aim c) = refl
-
-  places-guarded : (target : ℕ → ℕ) (code : List Instr) → placesIn (guarded color p target code) ≡ placesIn code
-  unfolding guarded placesIn
-  places-guarded target [] = refl
-  places-guarded target (i ∷ code) =
-      checks-count (view i) (moved target i ∷ guarded color p target code)
-      ∙ ap₂ _+_ (ap counts (view-moved target i) ∙ moved-count target (view i)) (places-guarded target code)
-
-  pub place-same : (k : ℕ) → placeIn (code₂ color p) (newPlace color p k) ≡ placeIn (p .code) k
-  place-same k =
-      let parts : code₂ color p ≡ before₂ color p k ++ guarded color p (newPlace color p) (drop k (p .code)) =
-      ap (guarded color p (newPlace color p)) (sym (take-append-drop k (p .code))) ∙ guarded-append color p (newPlace color p) (take k (p .code)) (drop k (p .code)) in
-      ap (λ l. placesIn (take (newPlace color p k) l)) parts
-      ∙ ap placesIn (take-at (before₂ color p k) (guarded color p (newPlace color p) (drop k (p .code))) (newPlace color p k) (length-before₂ color p k))
-      ∙ places-guarded (newPlace color p) (take k (p .code))
+      go : (b : Bool) → ltb k (length (p .code)) ≡ b → placeIn (q .code) (place k) ≡ placeIn (p .code) k
+          → placeIn (q .code) (place (suc k)) ≡ placeIn (p .code) (suc k)
+      go true e same =
+          let inside : k < length (p .code) = ltb-true k (length (p .code)) e in
+          ap (λ n. placeIn (q .code) (place n)) (sym (add-one k))
+          ∙ stands-count k (guards .stands k inside)
+          ∙ ap (λ n. n + counts (view (instrAt p k))) same
+          ∙ sym (place-behind (p .code) k inside)
+          ∙ ap (placeIn (p .code)) (add-one k)
+      go false e same =
+          let past : length (p .code) ≤ k = ltb-false k (length (p .code)) e in
+          ap (placeIn (q .code)) (guards .last (suc k) (omega arith) ∙ sym (guards .last k past))
+          ∙ same
+          ∙ place-past (p .code) k past
+          ∙ sym (place-past (p .code) (suc k) (omega arith))

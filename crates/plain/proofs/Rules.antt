@@ -12,9 +12,7 @@ use Rattle.files.specs.Program.{Program}
 use Rattle.coloring.specs.Unsafe.{unsafeSets}
 use Rattle.coloring.specs.Colored.{tinted}
 use Rattle.layout.specs.Layout.{piecesOf, startOf, fits}
-use Rattle.instrumenter.specs.Guards.{Exact}
-use Rattle.instrumenter.specs.Instrumented.{instrumented}
-use Rattle.instrumenter.proofs.Guarded.{code₂}
+use Rattle.plain.specs.Guards.{Guards}
 use Rattle.heap.specs.Heap.{Made, Freed, Alloc, Free, alloc, free, paintMade, paintFreed}
 use Rattle.plain.proofs.HeapAlloc.{AllocFacts, alloc-facts}
 use Rattle.plain.proofs.HeapFree.{FreeFacts, free-facts}
@@ -37,36 +35,40 @@ tinted-color color [] from k h = absurd (not-suc-le-zero h)
 tinted-color color (o ∷ os) from zero h = ap color (omega arith)
 tinted-color color (o ∷ os) from (suc k) h = tinted-color color os (from + 1) k (le-of-suc-le-suc h) ∙ ap color (omega arith)
 
-module _ (p : Program) (color : ℕ → ℕ) where
-  abbrev pub objects₂ : List Object
-  objects₂ = tinted color 0 (p .objects)
+abbrev pub rule₁ : Program → Rule (List Live)
+rule₁ p = record { code = p .code; start = startOf (plainPieces p); allows = plainAllows p; making = liveMaking; freeing = liveFreeing }
 
-  abbrev pub rule₁ : Rule (List Live)
-  rule₁ = record { code = p .code; start = startOf (plainPieces p); allows = plainAllows p; making = liveMaking; freeing = liveFreeing }
+-- with the live bodies that the run records
+abbrev pub rule₂ : Program → Rule (List ℕ × List Live)
+rule₂ q =
+    record {
+      code = q .code;
+      start = startOf (piecesOf (q .objects));
+      allows = λ own v address n. tableAllows (own .0) v address n;
+      making = λ own site k. (paintMade (own .0) (colorOfObject (q .objects) site) k, liveMaking (own .1) site k);
+      freeing = λ own address f. (paintFreed (own .0) f, liveFreeing (own .1) address f);
+    }
 
-  -- with the live bodies that the run records
-  abbrev pub rule₂ : Rule (List ℕ × List Live)
-  rule₂ =
-      record {
-        code = code₂ color p;
-        start = startOf (piecesOf objects₂);
-        allows = λ own v address n. tableAllows (own .0) v address n;
-        making = λ own site k. (paintMade (own .0) (colorOfObject objects₂ site) k, liveMaking (own .1) site k);
-        freeing = λ own address f. (paintFreed (own .0) f, liveFreeing (own .1) address f);
-      }
+pub rule₁-is : (p : Program) → plainRule p ≡ rule₁ p
+unfolding plainRule
+rule₁-is p = refl
 
-  pub rule₁-is : plainRule p ≡ rule₁
-  unfolding plainRule
-  rule₁-is = refl
+pub rule₂-is : (q : Program) → recording (tableRule q) ≡ rule₂ q
+unfolding tableRule
+rule₂-is q = refl
 
-  pub rule₂-is : recording (tableRule (instrumented color p)) ≡ rule₂
-  unfolding tableRule instrumented
-  rule₂-is = refl
+module _ (p q : Program) (guards : Guards p q) where
+  abbrev color : ℕ → ℕ
+  color = guards .color
 
-  module _ (exact : Exact (unsafeSets p) color) (good : Good p) (fitting : fits (plainPieces p) ≡ true) where
-    pub start-same : startOf (piecesOf objects₂) ≡ startOf (plainPieces p)
-    start-same = ap startOf (pieces-same (unsafeSets p) color exact (p .objects) 0)
+  pub start-same : startOf (piecesOf (q .objects)) ≡ startOf (plainPieces p)
+  start-same = ap (λ (os : List Object). startOf (piecesOf os)) (guards .objects) ∙ ap startOf (pieces-same (unsafeSets p) color (guards .exact) (p .objects) 0)
 
+  site-color : (g : ℕ) → g < length (p .objects) → colorOfObject (q .objects) g ≡ color g
+  site-color g site =
+      ap (λ (os : List Object). colorOfObject os g) (guards .objects) ∙ tinted-color color (p .objects) 0 g site ∙ ap color (omega arith)
+
+  module _ (good : Good p) (fitting : fits (plainPieces p) ≡ true) where
     whole : Each Whole (globals p)
     whole = globals-whole p fitting
 
@@ -78,18 +80,18 @@ module _ (p : Program) (color : ℕ → ℕ) where
       free-says address = free-facts color m (own .0) (h .blocks) address (h .tied)
 
       made-keeps : (size g : ℕ) (k : Made) → g < length (p .objects) → alloc m size g ≡ Alloc.made k
-          → Holds p color (liveMaking live g k) (rule₂ .making own g k) (k .memory)
+          → Holds p color (liveMaking live g k) (rule₂ q .making own g k) (k .memory)
       made-keeps size g k site e =
           subst (λ c. Holds p color (liveMaking live g k) (paintMade (own .0) c k, liveMaking (own .1) g k) (k .memory))
-          (sym (tinted-color color (p .objects) 0 g site ∙ ap color (omega arith)))
+          (sym (site-color g site))
           (holds-made p color whole live own m h g k (subst (AllocFacts color m (own .0) (h .blocks) g) e (alloc-says size g site)))
 
       freed-keeps : (address : ℕ) (f : Freed) → free m address ≡ Free.freed f
-          → Holds p color (liveFreeing live address f) (rule₂ .freeing own address f) (f .memory)
+          → Holds p color (liveFreeing live address f) (rule₂ q .freeing own address f) (f .memory)
       freed-keeps address f e =
           holds-freed p color whole live own m h address f (subst (FreeFacts color m (own .0) (h .blocks) address) e (free-says address))
 
-    pub alike : Alike (Holds p color) Calm rule₁ rule₂ (λ g. g < length (p .objects))
+    pub alike : Alike (Holds p color) Calm (rule₁ p) (rule₂ q) (λ g. g < length (p .objects))
     alike =
         record {
           starts = λ g. ap (λ f. f g) start-same;

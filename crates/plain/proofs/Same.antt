@@ -8,10 +8,7 @@ use mathlib.Core.List.{List, []}
 use mathlib.Core.Bool.{true}
 use lib.ListN.{length}
 use Rattle.files.specs.Program.{Program}
-use Rattle.coloring.specs.Unsafe.{unsafeSets}
 use Rattle.layout.specs.Layout.{fits}
-use Rattle.instrumenter.specs.Instrumented.{instrumented, spanOf, newPlace}
-use Rattle.instrumenter.specs.Guards.{Exact}
 use Rattle.machine.specs.declared.Reason.{Reason}
 use Rattle.machine.specs.State.{Given, State, startState}
 use Rattle.machine.specs.Step.{stop, next, step}
@@ -21,6 +18,7 @@ use Rattle.machine.proofs.Steps.{stop-not-next, next-same, stop-same}
 use Rattle.machine.proofs.Effects.{Calm, image}
 use Rattle.plain.specs.Live.{Live}
 use Rattle.plain.specs.Plain.{plainPieces, plainRule, plainRun}
+use Rattle.plain.specs.Guards.{Guards}
 use Rattle.plain.specs.Demands.{Reaches, Stops, Agree, SameRun, NeverOutside}
 use Rattle.plain.proofs.Stopping.{run-stops, run-is}
 use Rattle.plain.proofs.Recorded.{shownNext, step-shown, reaches-shown}
@@ -31,30 +29,33 @@ use Rattle.plain.proofs.Rules.{rule₁, rule₂}
 use Rattle.plain.proofs.Lockstep.{placed, Lock, lock}
 use Rattle.plain.proofs.Places.{place-same}
 
-module _ (p : Program) (color : ℕ → ℕ) (given : Given) where
+module _ (p q : Program) (guards : Guards p q) (given : Given) where
   -- where the table's run starts
   abbrev pub start₂ : State (List ℕ × List Live)
-  start₂ = startState (firstTable (instrumented color p), [])
+  start₂ = startState (firstTable q, [])
 
   -- a state of the table's run that is tied to one of the routine's
   abbrev pub Kept : State (List Live) → Type 0
-  Kept s = (own : List ℕ × List Live) × Reaches (rule₂ p color) given start₂ (placed p color given s own) × Holds p color (s .own) own (s .memory)
+  Kept s = (own : List ℕ × List Live) × Reaches (rule₂ q) given start₂ (placed p q guards given s own) × Holds p (guards .color) (s .own) own (s .memory)
 
-module _ (p : Program) (color : ℕ → ℕ) (given : Given) (exact : Exact (unsafeSets p) color) (good : Good p) (fitting : fits (plainPieces p) ≡ true) where
-  start-kept : Kept p color given (startState [])
-  unfolding newPlace spanOf
-  start-kept = ((firstTable (instrumented color p), []), Reaches.here, holds-start p color exact fitting)
+module _ (p q : Program) (guards : Guards p q) (given : Given) (good : Good p) (fitting : fits (plainPieces p) ≡ true) where
+  start-kept : Kept p q guards given (startState [])
+  start-kept = (
+    (firstTable q, []),
+    subst (λ n. Reaches (rule₂ q) given (start₂ p q guards given) (image {S = List Live} (startState []) n (firstTable q, []))) (sym (guards .first)) Reaches.here,
+    holds-start p q guards fitting,
+  )
 
-  step-kept : (s after : State (List Live)) → Kept p color given s → step (rule₁ p color) given s ≡ next after → Kept p color given after
-  step-kept s after (own, way, h) e = go (lock p color given exact good fitting s own h)
+  step-kept : (s after : State (List Live)) → Kept p q guards given s → step (rule₁ p) given s ≡ next after → Kept p q guards given after
+  step-kept s after (own, way, h) e = go (lock p q guards given good fitting s own h)
     where
-      go : Lock p color given s own → Kept p color given after
+      go : Lock p q guards given s own → Kept p q guards given after
       go (Lock.halts x) = absurd (stop-not-next (sym (x .plain) ∙ e))
-      go (Lock.goes g) = subst (Kept p color given) (next-same (sym (g .plain) ∙ e)) (g .own′, Reaches.more way (g .guarded), g .holds)
-      go (Lock.checks aim b is bytes c g) = subst (Kept p color given) (next-same (sym (g .plain) ∙ e)) (g .own′, Reaches.more (Reaches.more way c) (g .guarded), g .holds)
+      go (Lock.goes g) = subst (Kept p q guards given) (next-same (sym (g .plain) ∙ e)) (g .own′, Reaches.more way (g .guarded), g .holds)
+      go (Lock.checks aim b is bytes c g) = subst (Kept p q guards given) (next-same (sym (g .plain) ∙ e)) (g .own′, Reaches.more (Reaches.more way c) (g .guarded), g .holds)
 
   -- the table's machine keeps up with the routine
-  pub keeps-up : {s : State (List Live)} → Reaches (rule₁ p color) given (startState []) s → Kept p color given s
+  pub keeps-up : {s : State (List Live)} → Reaches (rule₁ p) given (startState []) s → Kept p q guards given s
   keeps-up Reaches.here = start-kept
   keeps-up (Reaches.more {state} {after} way e) = step-kept state after (keeps-up way) e
 
@@ -66,70 +67,65 @@ module _ (p : Program) (color : ℕ → ℕ) (given : Given) (exact : Exact (uns
     reason : Reason
     calm : Calm reason
     plain : runs (plainRule p) given [] ≡ stopped (plainRule p) given state reason
-    table : runs (tableRule (instrumented color p)) given (firstTable (instrumented color p))
-        ≡ stopped (tableRule (instrumented color p)) given (image state (newPlace color p (state .at)) (own .0)) reason
+    table : runs (tableRule q) given (firstTable q)
+        ≡ stopped (tableRule q) given (image state (guards .place (state .at)) (own .0)) reason
 
   table-end : (s : State (List Live)) (own : List ℕ × List Live) (x : Reason)
-      → Reaches (rule₂ p color) given (start₂ p color given) (placed p color given s own) → step (rule₂ p color) given (placed p color given s own) ≡ stop x
-      → runs (tableRule (instrumented color p)) given (firstTable (instrumented color p))
-      ≡ stopped (tableRule (instrumented color p)) given (image s (newPlace color p (s .at)) (own .0)) x
-  unfolding tableRule instrumented
+      → Reaches (rule₂ q) given (start₂ p q guards given) (placed p q guards given s own) → step (rule₂ q) given (placed p q guards given s own) ≡ stop x
+      → runs (tableRule q) given (firstTable q)
+      ≡ stopped (tableRule q) given (image s (guards .place (s .at)) (own .0)) x
+  unfolding tableRule
   table-end s own x way e =
-      run-is (tableRule (instrumented color p)) given (firstTable (instrumented color p))
-      (reaches-shown (tableRule (instrumented color p)) given way)
-      (step-shown (tableRule (instrumented color p)) given (placed p color given s own) ∙ ap (shownNext (tableRule (instrumented color p)) given) e)
+      run-is (tableRule q) given (firstTable q)
+      (reaches-shown (tableRule q) given way)
+      (step-shown (tableRule q) given (placed p q guards given s own) ∙ ap (shownNext (tableRule q) given) e)
 
   ends : Ends
   unfolding plainRule
   ends = go (keeps-up (one .reached))
     where
-      one : Stops (rule₁ p color) given []
-      one = run-stops (rule₁ p color) given []
+      one : Stops (rule₁ p) given []
+      one = run-stops (rule₁ p) given []
 
-      both : (own : List ℕ × List Live) → Reaches (rule₂ p color) given (start₂ p color given) (placed p color given (one .state) own) → Lock p color given (one .state) own → Ends
+      both : (own : List ℕ × List Live) → Reaches (rule₂ q) given (start₂ p q guards given) (placed p q guards given (one .state) own) → Lock p q guards given (one .state) own → Ends
       both own way (Lock.halts x) =
           record {
             state = one .state;
             own = own;
             reason = x .reason;
             calm = x .calm;
-            plain = one .outcome ∙ ap (stopped (rule₁ p color) given (one .state)) (stop-same (sym (one .stopping) ∙ x .plain));
+            plain = one .outcome ∙ ap (stopped (rule₁ p) given (one .state)) (stop-same (sym (one .stopping) ∙ x .plain));
             table = table-end (one .state) own (x .reason) way (x .guarded);
           }
       both own way (Lock.goes g) = absurd (stop-not-next (sym (one .stopping) ∙ g .plain))
       both own way (Lock.checks aim b is bytes c g) = absurd (stop-not-next (sym (one .stopping) ∙ g .plain))
 
-      go : Kept p color given (one .state) → Ends
-      go (own, way, h) = both own way (lock p color given exact good fitting (one .state) own h)
+      go : Kept p q guards given (one .state) → Ends
+      go (own, way, h) = both own way (lock p q guards given good fitting (one .state) own h)
 
-  agree : Agree (runs (tableRule (instrumented color p)) given (firstTable (instrumented color p))) (plainRun p given)
-  unfolding plainRule tableRule instrumented
+  agree : Agree (runs (tableRule q) given (firstTable q)) (plainRun p given)
+  unfolding plainRule tableRule
   agree =
       let e : Ends = ends in
       record {
         run =
             ap (λ o. o .run) (e .table)
-            ∙ ap (λ (n : ℕ). record { reason = e .reason; place = n; steps = e .state .steps; out = length (e .state .outs); taken = e .state .taken }) (place-same color p (e .state .at))
+            ∙ ap (λ (n : ℕ). record { reason = e .reason; place = n; steps = e .state .steps; out = length (e .state .outs); taken = e .state .taken }) (place-same p q guards (e .state .at))
             ∙ sym (ap (λ o. o .run) (e .plain));
         outs = ap (λ o. o .outs) (e .table) ∙ sym (ap (λ o. o .outs) (e .plain));
         memory = ap (λ o. o .memory) (e .table) ∙ sym (ap (λ o. o .memory) (e .plain));
       }
 
-  calm-end : Calm (runs (tableRule (instrumented color p)) given (firstTable (instrumented color p)) .run .reason)
+  calm-end : Calm (runs (tableRule q) given (firstTable q) .run .reason)
   calm-end = let e : Ends = ends in subst Calm (sym (ap (λ o. o .run .reason) (e .table))) (e .calm)
 
 -- "the same reason, at the same place, after the same steps, with the same numbers out and the same memory"
 pub same-run : SameRun
-same-run p q given accepted guards =
-    subst (λ x. Agree (runs (tableRule x) given (firstTable x)) (plainRun p given)) (sym (guards .form))
-    (agree p (guards .color) given (guards .exact) (good p (accepted .good)) (accepted .fitting))
+same-run p q given accepted guards = agree p q guards given (good p (accepted .good)) (accepted .fitting)
 
 -- "Instrumented code never meets 35 or 38"
 pub never-outside : NeverOutside
-never-outside p q given accepted guards =
-    ((λ e. subst Calm e calm), (λ e. subst Calm e calm))
+never-outside p q given accepted guards = ((λ e. subst Calm e calm), (λ e. subst Calm e calm))
   where
     calm : Calm (runs (tableRule q) given (firstTable q) .run .reason)
-    calm =
-        subst (λ x. Calm (runs (tableRule x) given (firstTable x) .run .reason)) (sym (guards .form))
-        (calm-end p (guards .color) given (guards .exact) (good p (accepted .good)) (accepted .fitting))
+    calm = calm-end p q guards given (good p (accepted .good)) (accepted .fitting)

@@ -6,12 +6,12 @@ use mathlib.Core.Path.{_≡_, refl, sym, _∙_, ap, subst}
 use mathlib.Core.List.{List, [], _∷_}
 use mathlib.Core.Bool.{true, false}
 use lib.ListN.{length, length-replicate, getD-replicate}
+use Rattle.files.specs.declared.Object.{Object}
 use Rattle.files.specs.Program.{Program}
 use Rattle.coloring.specs.Unsafe.{unsafeSets}
 use Rattle.coloring.specs.Colored.{tinted}
-use Rattle.layout.specs.Layout.{fits}
-use Rattle.instrumenter.specs.Guards.{Exact}
-use Rattle.instrumenter.specs.Instrumented.{instrumented}
+use Rattle.layout.specs.Layout.{fits, piecesOf}
+use Rattle.plain.specs.Guards.{Guards}
 use Rattle.heap.specs.Memory.{memorySize, tableSize, colorAt, paint}
 use Rattle.heap.specs.Heap.{heapStart, endSlot, Block, emptyHeap}
 use Rattle.heap.proofs.Memory.{length-paint, paint-outside, paint-inside}
@@ -43,7 +43,10 @@ blank-color a inside = getD-replicate tableSize (a / 8) 0 0 (omega arith)
 
 -- ---- the table, from the inside out: the globals, the first header, the end slot
 
-module _ (p : Program) (color : ℕ → ℕ) (exact : Exact (unsafeSets p) color) (fitting : fits (plainPieces p) ≡ true) where
+module _ (p q : Program) (guards : Guards p q) (fitting : fits (plainPieces p) ≡ true) where
+  abbrev color : ℕ → ℕ
+  color = guards .color
+
   t₀ : List ℕ
   t₀ = painted color (globals p) blankTable
 
@@ -53,11 +56,12 @@ module _ (p : Program) (color : ℕ → ℕ) (exact : Exact (unsafeSets p) color
   t₂ : List ℕ
   t₂ = paint t₁ endSlot 8 1
 
-  first-is : firstTable (instrumented color p) ≡ t₂
-  unfolding firstTable instrumented t₂ t₁ t₀ globals
+  first-is : firstTable q ≡ t₂
+  unfolding firstTable t₂ t₁ t₀ globals
   first-is =
       ap (λ t. paint (paint t heapStart 8 1) endSlot 8 1)
-      (ap (λ pieces. paintGlobals pieces 0 (tinted color 0 (p .objects)) blankTable) (pieces-same (unsafeSets p) color exact (p .objects) 0)
+      (ap (λ (os : List Object). paintGlobals (piecesOf os) 0 os blankTable) (guards .objects)
+      ∙ ap (λ pieces. paintGlobals pieces 0 (tinted color 0 (p .objects)) blankTable) (pieces-same (unsafeSets p) color (guards .exact) (p .objects) 0)
       ∙ paint-globals color (plainPieces p) (p .objects) 0 blankTable)
 
   slots₀ : length t₀ ≡ tableSize
@@ -130,7 +134,7 @@ module _ (p : Program) (color : ℕ → ℕ) (exact : Exact (unsafeSets p) color
         clear = λ none. omega (arith, clear₀ a (omega arith) none);
       }
 
-  pub holds-start : Holds p color [] (firstTable (instrumented color p), []) (emptyHeap blankMemory)
+  pub holds-start : Holds p color [] (firstTable q, []) (emptyHeap blankMemory)
   unfolding only liveOf
   holds-start =
       record {

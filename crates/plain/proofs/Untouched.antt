@@ -5,20 +5,18 @@
 use Prim.Native.Nat.{ℕ, _+_, _<_, _≤_}
 use native.Mathlib.Omega.{arith}
 use mathlib.Core.Path.{_≡_, refl, sym, _∙_, ap, subst}
-use mathlib.Core.List.{List, [], _∷_, _++_}
+use mathlib.Core.List.{List, [], _++_}
 use mathlib.Core.Bool.{Bool, true, false, false≢true}
 use lib.ListN.{length, getD}
 use lib.Dec.{ltb}
 use borrow.Author.Tests.{ltb-true, ltb-false, leb-true}
 use Rattle.files.specs.declared.Instr.{Instr}
 use Rattle.files.specs.Program.{Program}
-use Rattle.files.specs.View.{Aim, inGlobal, atTemp, View, act, jump, jumpIf, store, check, view, checkInstr, extent}
+use Rattle.files.specs.View.{Aim, inGlobal, atTemp, View, act, jump, jumpIf, store, check, view, extent}
 use Rattle.coloring.specs.Unsafe.{safeAim, setOf, unsafeSets, sizeOf}
 use Rattle.coloring.specs.Class.{unsafeObject}
 use Rattle.layout.specs.Layout.{startOf, fits}
-use Rattle.instrumenter.specs.Instrumented.{instrumented, checkOf, newPlace}
-use Rattle.instrumenter.specs.Guards.{Exact, Guards}
-use Rattle.instrumenter.proofs.Guarded.{movedView, view-moved, view-check, code₂, place-past, alone, checked}
+use Rattle.instrumenter.proofs.Guarded.{movedView, view-moved, view-check}
 use Rattle.heap.specs.Memory.{memorySize, colorAt, put, bytesOf}
 use Rattle.heap.proofs.Memory.{put-outside, length-bytesOf}
 use Rattle.machine.specs.State.{Given, State, startState, temp, addressOf}
@@ -28,12 +26,14 @@ use Rattle.machine.proofs.Steps.{goes-in-code, store-writes}
 use Rattle.machine.proofs.Effects.{image}
 use Rattle.plain.specs.Live.{Live, owns}
 use Rattle.plain.specs.Plain.{plainPieces, globals}
+use Rattle.plain.specs.Guards.{Guards, mustCheck}
 use Rattle.plain.specs.Demands.{Reaches, Accepted, recording}
 use Rattle.plain.proofs.Good.{Fine, Good, good}
 use Rattle.plain.proofs.Owners.{Each, each-left, each-map, owns-inside}
 use Rattle.plain.proofs.Globals.{global-of, globals-whole}
 use Rattle.plain.proofs.Holding.{Holds, tells-all}
 use Rattle.plain.proofs.Rules.{rule₂, start-same}
+use Rattle.plain.proofs.Standing.{alone, checked}
 use Rattle.plain.proofs.Lockstep.{placed, Colored}
 use Rattle.plain.proofs.Through.{Through, through}
 
@@ -41,25 +41,31 @@ use Rattle.plain.proofs.Through.{Through, through}
 abbrev pub Unowned : List Live → (a : ℕ) → Type 0
 Unowned os a = Each (λ o. owns o a ≡ false) os
 
-module _ (p : Program) (color : ℕ → ℕ) (given : Given) (exact : Exact (unsafeSets p) color) (good : Good p) (fitting : fits (plainPieces p) ≡ true) where
+module _ (p q : Program) (guards : Guards p q) (given : Given) (good : Good p) (fitting : fits (plainPieces p) ≡ true) where
+  abbrev color : ℕ → ℕ
+  color = guards .color
+
+  abbrev place : ℕ → ℕ
+  place = guards .place
+
   -- what a store from a state leaves alone
   abbrev Leaves : State (List ℕ × List Live) → Type 0
   Leaves r =
-      (after : State (List ℕ × List Live)) (aim : Aim) (b s : ℕ) → view (getD (code₂ color p) (r .at) Instr.End) ≡ store aim b s
-      → step (rule₂ p color) given r ≡ next after → (a : ℕ) → Unowned (globals p ++ r .own .1) a → getD (after .memory) a 0 ≡ getD (r .memory) a 0
+      (after : State (List ℕ × List Live)) (aim : Aim) (b s : ℕ) → view (getD (q .code) (r .at) Instr.End) ≡ store aim b s
+      → step (rule₂ q) given r ≡ next after → (a : ℕ) → Unowned (globals p ++ r .own .1) a → getD (after .memory) a 0 ≡ getD (r .memory) a 0
 
   module _ (s : State (List Live)) (own : List ℕ × List Live) (h : Holds p color (s .own) own (s .memory)) where
     abbrev start : Aim → ℕ
     start aim = addressOf (startOf (plainPieces p)) (s .temps) aim
 
     -- a store whose bytes all have an owner
-    writes-owned : (at₂ : ℕ) (after : State (List ℕ × List Live)) (aim : Aim) (b t : ℕ) → view (getD (code₂ color p) at₂ Instr.End) ≡ store aim b t
-        → step (rule₂ p color) given (image s at₂ own) ≡ next after → (a : ℕ) → (start aim ≤ a → a < start aim + widthOf aim → ⊥)
+    writes-owned : (at₂ : ℕ) (after : State (List ℕ × List Live)) (aim : Aim) (b t : ℕ) → view (getD (q .code) at₂ Instr.End) ≡ store aim b t
+        → step (rule₂ q) given (image s at₂ own) ≡ next after → (a : ℕ) → (start aim ≤ a → a < start aim + widthOf aim → ⊥)
         → getD (after .memory) a 0 ≡ getD (s .memory) a 0
     writes-owned at₂ after aim b t is e a out =
         ap (λ m. getD m a 0)
-        (store-writes (rule₂ p color) given (image s at₂ own) aim b t after is e
-        ∙ ap (λ f. put (s .memory) (addressOf f (s .temps) aim) (bytesOf (widthOf aim) (temp (s .temps) b))) (start-same p color exact good fitting))
+        (store-writes (rule₂ q) given (image s at₂ own) aim b t after is e
+        ∙ ap (λ f. put (s .memory) (addressOf f (s .temps) aim) (bytesOf (widthOf aim) (temp (s .temps) b))) (start-same p q guards))
         ∙ put-outside (s .memory) (start aim) (bytesOf (widthOf aim) (temp (s .temps) b)) a
         (λ x y. out x (omega (arith, length-bytesOf (widthOf aim) (temp (s .temps) b))))
 
@@ -68,13 +74,13 @@ module _ (p : Program) (color : ℕ → ℕ) (given : Given) (exact : Exact (uns
         tells-all p color (globals-whole p fitting) (s .own) own (s .memory) h a inside .clear (subst (λ l. Unowned (globals p ++ l) a) (h .recorded) none)
 
     -- behind its check
-    leaves-behind : (aim : Aim) (b : ℕ) → view (getD (code₂ color p) (newPlace color p (s .at) + 1) Instr.End) ≡ store aim b 0
-        → Colored p color given s (own .0) aim → Leaves (image s (newPlace color p (s .at) + 1) own)
+    leaves-behind : (aim : Aim) (b : ℕ) → view (getD (q .code) (place (s .at) + 1) Instr.End) ≡ store aim b 0
+        → Colored p q guards given s (own .0) aim → Leaves (image s (place (s .at) + 1) own)
     leaves-behind aim b is bytes after aim′ b′ t is′ e a none =
         let same : aim ≡ aim′ = cc in
-        writes-owned (newPlace color p (s .at) + 1) after aim′ b′ t is′ e a
+        writes-owned (place (s .at) + 1) after aim′ b′ t is′ e a
         (λ x y.
-        let c : (a < memorySize) × (2 ≤ colorAt (own .0) a) = subst (Colored p color given s (own .0)) same bytes a x y in
+        let c : (a < memorySize) × (2 ≤ colorAt (own .0) a) = subst (Colored p q guards given s (own .0)) same bytes a x y in
         omega (arith, c .1, unowned-color a (c .0) none))
 
     -- a safe PUT, whose bytes are its global's
@@ -88,29 +94,28 @@ module _ (p : Program) (color : ℕ → ℕ) (given : Given) (exact : Exact (uns
     safe-owned (atTemp c w) b t f safe a none x y = false≢true safe
 
     -- what stands at the new place of an instruction
-    new-alone : (inCode : s .at < length (p .code)) (v : View) → view (getD (p .code) (s .at) Instr.End) ≡ v → checkOf color p v ≡ []
-        → view (getD (code₂ color p) (newPlace color p (s .at)) Instr.End) ≡ movedView (newPlace color p) v
+    new-alone : (inCode : s .at < length (p .code)) (v : View) → view (getD (p .code) (s .at) Instr.End) ≡ v → mustCheck p v ≡ false
+        → view (getD (q .code) (place (s .at)) Instr.End) ≡ movedView (guards .target) v
     new-alone inCode v i none =
-        ap view (alone color p (s .at) inCode (ap (checkOf color p) i ∙ none) .here)
-        ∙ view-moved (newPlace color p) (getD (p .code) (s .at) Instr.End) ∙ ap (movedView (newPlace color p)) i
+        ap view (alone p q guards (s .at) inCode (ap (mustCheck p) i ∙ none) .here)
+        ∙ view-moved (guards .target) (getD (p .code) (s .at) Instr.End) ∙ ap (movedView (guards .target)) i
 
     pub new-check : (inCode : s .at < length (p .code)) (aim : Aim) (b t : ℕ) → view (getD (p .code) (s .at) Instr.End) ≡ store aim b t → safeAim p aim ≡ false
-        → view (getD (code₂ color p) (newPlace color p (s .at)) Instr.End) ≡ check aim (color (getD (setOf p aim t) 0 0))
+        → view (getD (q .code) (place (s .at)) Instr.End) ≡ check aim (color (getD (setOf p aim t) 0 0))
     new-check inCode aim b t i unsafe =
-        let has : checkOf color p (store aim b t) ≡ checkInstr aim (color (getD (setOf p aim t) 0 0)) ∷ [] = rw (unsafe, checkOf) in
-        ap view (checked color p (s .at) inCode (checkInstr aim (color (getD (setOf p aim t) 0 0))) (ap (checkOf color p) i ∙ has) .here)
+        ap view (checked p q guards (s .at) inCode aim b t i unsafe .here)
         ∙ view-check aim (color (getD (setOf p aim t) 0 0))
 
-    leaves-tied : Leaves (placed p color given s own)
+    leaves-tied : Leaves (placed p q guards given s own)
     leaves-tied after aim b t is e a none = code (ltb (s .at) (length (p .code))) refl
       where
         stored : (inCode : s .at < length (p .code)) (x : Aim) (y z : ℕ) → view (getD (p .code) (s .at) Instr.End) ≡ store x y z → Fine p (store x y z)
             → (c : Bool) → safeAim p x ≡ c → getD (after .memory) a 0 ≡ getD (s .memory) a 0
         stored inCode x y z i f true safe =
-            let none₁ : checkOf color p (store x y z) ≡ [] = rw (safe, checkOf) in
+            let none₁ : mustCheck p (store x y z) ≡ false = rw (safe, mustCheck) in
             let at : _ ≡ store x y 0 = new-alone inCode (store x y z) i none₁ in
             let same : x ≡ aim = cc in
-            writes-owned (newPlace color p (s .at)) after aim b t is e a
+            writes-owned (place (s .at)) after aim b t is e a
             (subst (λ q. start q ≤ a → a < start q + widthOf q → ⊥) same (safe-owned x y z f safe a (each-left (λ o. owns o a ≡ false) (globals p) (own .1) none)))
         stored inCode x y z i f false unsafe =
             let at : _ ≡ check x (color (getD (setOf p x z) 0 0)) = new-check inCode x y z i unsafe in
@@ -119,17 +124,17 @@ module _ (p : Program) (color : ℕ → ℕ) (given : Given) (exact : Exact (uns
 
         by : (inCode : s .at < length (p .code)) (v : View) → view (getD (p .code) (s .at) Instr.End) ≡ v → Fine p v → getD (after .memory) a 0 ≡ getD (s .memory) a 0
         by inCode (act x) i f = let at : _ ≡ act x = new-alone inCode (act x) i refl in let z : _≡_ {A = ℕ} 0 1 = cc in absurd (omega arith)
-        by inCode (jump x) i f = let at : _ ≡ jump (newPlace color p x) = new-alone inCode (jump x) i refl in let z : _≡_ {A = ℕ} 0 1 = cc in absurd (omega arith)
-        by inCode (jumpIf x y) i f = let at : _ ≡ jumpIf x (newPlace color p y) = new-alone inCode (jumpIf x y) i refl in let z : _≡_ {A = ℕ} 0 1 = cc in absurd (omega arith)
+        by inCode (jump x) i f = let at : _ ≡ jump (guards .target x) = new-alone inCode (jump x) i refl in let z : _≡_ {A = ℕ} 0 1 = cc in absurd (omega arith)
+        by inCode (jumpIf x y) i f = let at : _ ≡ jumpIf x (guards .target y) = new-alone inCode (jumpIf x y) i refl in let z : _≡_ {A = ℕ} 0 1 = cc in absurd (omega arith)
         by inCode (store x y z) i f = stored inCode x y z i f (safeAim p x) refl
         by inCode (check x c) i f = absurd f
 
         code : (c : Bool) → ltb (s .at) (length (p .code)) ≡ c → getD (after .memory) a 0 ≡ getD (s .memory) a 0
         code true c = by (ltb-true _ _ c) (view (getD (p .code) (s .at) Instr.End)) refl (good .fines (s .at) (ltb-true _ _ c))
         code false c =
-            absurd (omega (arith, place-past color p (s .at) (ltb-false _ _ c), goes-in-code (rule₂ p color) given (placed p color given s own) after e))
+            absurd (omega (arith, guards .last (s .at) (ltb-false _ _ c), goes-in-code (rule₂ q) given (placed p q guards given s own) after e))
 
-  leaves : (r : State (List ℕ × List Live)) → Through p color given exact good fitting r → Leaves r
+  leaves : (r : State (List ℕ × List Live)) → Through p q guards given good fitting r → Leaves r
   leaves r (Through.tied s own is h) = subst Leaves is (leaves-tied s own h)
   leaves r (Through.behind s own aim b v bytes is h g) = subst Leaves is (leaves-behind s own h aim b v bytes)
 
@@ -139,8 +144,8 @@ module _ (p : Program) (color : ℕ → ℕ) (given : Given) (exact : Exact (uns
   color-not-one x one = go (unsafeObject (unsafeSets p) x) refl
     where
       go : (b : Bool) → unsafeObject (unsafeSets p) x ≡ b → ⊥
-      go true u = omega (arith, exact .low x u)
-      go false u = omega (arith, exact .safe x u)
+      go true u = omega (arith, guards .exact .low x u)
+      go false u = omega (arith, guards .exact .safe x u)
 
   holds-unowned : (live : List Live) (own : List ℕ × List Live) (m : List ℕ) → Holds p color live own m
       → (a : ℕ) → a < memorySize → colorAt (own .0) a ≡ 1 → Unowned (globals p ++ own .1) a
@@ -156,7 +161,7 @@ module _ (p : Program) (color : ℕ → ℕ) (given : Given) (exact : Exact (uns
           go true u = absurd (color-not-one (o .object) (sym (f u) ∙ one))
           go false u = u
 
-  through-unowned : (r : State (List ℕ × List Live)) → Through p color given exact good fitting r → (a : ℕ) → a < memorySize
+  through-unowned : (r : State (List ℕ × List Live)) → Through p q guards given good fitting r → (a : ℕ) → a < memorySize
       → colorAt (r .own .0) a ≡ 1 → Unowned (globals p ++ r .own .1) a
   through-unowned r (Through.tied s own is h) =
       subst (λ r. (a : ℕ) → a < memorySize → colorAt (r .own .0) a ≡ 1 → Unowned (globals p ++ r .own .1) a) is (holds-unowned (s .own) own (s .memory) h)
@@ -176,21 +181,17 @@ Reached q given r = Reaches (recording (tableRule q)) given (startState (firstTa
 
 pub unowned-kept : (p q : Program) (given : Given) → Accepted p → Guards p q → (r : State (List ℕ × List Live)) → Reached q given r
     → (a : ℕ) → Unowned (globals p ++ r .own .1) a → StoreKeeps p q given r a
-unfolding tableRule instrumented
-unowned-kept p q given accepted guards =
-    subst (λ x. (r : State (List ℕ × List Live)) → Reached x given r → (a : ℕ) → Unowned (globals p ++ r .own .1) a → StoreKeeps p x given r a) (sym (guards .form))
-    (λ r way a none after aim b s is e.
-    leaves p (guards .color) given (guards .exact) (good p (accepted .good)) (accepted .fitting) r
-    (through p (guards .color) given (guards .exact) (good p (accepted .good)) (accepted .fitting) way) after aim b s is e a none)
+unfolding tableRule
+unowned-kept p q given accepted guards r way a none after aim b s is e =
+    let good : Good p = good p (accepted .good) in
+    leaves p q guards given good (accepted .fitting) r (through p q guards given good (accepted .fitting) way) after aim b s is e a none
 
 -- "Color 1 is for heap headers": no store of instrumented code changes a byte of color 1
 pub headers-kept : (p q : Program) (given : Given) → Accepted p → Guards p q → (r : State (List ℕ × List Live)) → Reached q given r
     → (a : ℕ) → a < memorySize → colorAt (r .own .0) a ≡ 1 → StoreKeeps p q given r a
-unfolding tableRule instrumented
-headers-kept p q given accepted guards =
-    subst (λ x. (r : State (List ℕ × List Live)) → Reached x given r → (a : ℕ) → a < memorySize → colorAt (r .own .0) a ≡ 1 → StoreKeeps p x given r a) (sym (guards .form))
-    (λ r way a inside one after aim b s is e.
-    let along : Through p (guards .color) given (guards .exact) (good p (accepted .good)) (accepted .fitting) r =
-    through p (guards .color) given (guards .exact) (good p (accepted .good)) (accepted .fitting) way in
-    leaves p (guards .color) given (guards .exact) (good p (accepted .good)) (accepted .fitting) r along after aim b s is e a
-    (through-unowned p (guards .color) given (guards .exact) (good p (accepted .good)) (accepted .fitting) r along a inside one))
+unfolding tableRule
+headers-kept p q given accepted guards r way a inside one after aim b s is e =
+    let good : Good p = good p (accepted .good) in
+    let along : Through p q guards given good (accepted .fitting) r = through p q guards given good (accepted .fitting) way in
+    leaves p q guards given good (accepted .fitting) r along after aim b s is e a
+    (through-unowned p q guards given good (accepted .fitting) r along a inside one)

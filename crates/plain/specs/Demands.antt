@@ -1,29 +1,25 @@
 -- What has to be proved, as types.
-use Prim.Native.Nat.{ℕ, _+_, _≤_, _<_}
+use Prim.Native.Nat.{ℕ, _≤_}
 use mathlib.Core.Path.{_≡_}
-use mathlib.Core.Logic.{_⊎_}
 use mathlib.Core.List.{List, []}
-use mathlib.Core.Bool.{Bool, true, false}
-use lib.ListN.{length}
-use Rattle.numbers.specs.declared.Refusal.{Refusal}
+use mathlib.Core.Bool.{true}
 use Rattle.files.specs.Program.{Program}
-use Rattle.files.specs.Reading.{Reading, whole, readFile}
-use Rattle.files.specs.Writing.{goodProgram, spellFile}
-use Rattle.coloring.specs.Unsafe.{unsafeSets}
-use Rattle.coloring.specs.Class.{Chain, unsafeObject, sameClass}
+use Rattle.files.specs.Reading.{whole, readFile}
+use Rattle.files.specs.Writing.{goodProgram}
+use Rattle.coloring.specs.Class.{Chain, sameClass}
 use Rattle.coloring.specs.Color.{Legal, colorOf}
 use Rattle.coloring.specs.Colored.{colorIn, classCount}
 use Rattle.layout.specs.Layout.{fits}
 use Rattle.instrumenter.specs.Instrumented.{instrumented}
-use Rattle.instrumenter.specs.Guards.{Guards, Answer, file, instrument}
+use Rattle.instrumenter.specs.Answer.{file, instrument}
 use Rattle.machine.specs.declared.Reason.{Reason}
-use Rattle.machine.specs.declared.Run.{Run}
 use Rattle.machine.specs.State.{Rule, Given, State, startState}
-use Rattle.machine.specs.Step.{Next, stop, next, step}
+use Rattle.machine.specs.Step.{stop, next, step}
 use Rattle.machine.specs.Runs.{Outcome, stopped, runs}
 use Rattle.machine.specs.Colors.{tableRule, firstTable}
 use Rattle.plain.specs.Live.{Live, liveMaking, liveFreeing, account}
 use Rattle.plain.specs.Plain.{plainPieces, plainRule, plainRun}
+use Rattle.plain.specs.Guards.{Guards}
 
 -- the states that a run comes through
 pub data Reaches {S : Type 0} (rule : Rule S) (given : Given) (start : State S) : State S → Type 0 where

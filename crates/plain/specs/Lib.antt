@@ -1,3 +1,4 @@
 pub mod Live
 pub mod Plain
+pub mod Guards
 pub mod Demands

@@ -1,16 +1,16 @@
 -- The plain rule: "a store completes exactly when it is safe, or every byte of it lies in a live object
 -- of its class". It knows objects and places, and has no colors and no table.
-use Prim.Native.Nat.{ℕ, zero, suc, _+_}
+use Prim.Native.Nat.{ℕ, _+_}
 use mathlib.Core.List.{List, [], _∷_, _++_}
 use mathlib.Core.Bool.{Bool, true, false, not}
-use lib.ListN.{length, getD}
+use lib.ListN.{getD}
 use lib.Dec.{eqb}
 use Rattle.files.specs.declared.Object.{Object}
 use Rattle.files.specs.Program.{Program}
-use Rattle.files.specs.View.{Aim, View, act, jump, jumpIf, store, check, extent}
+use Rattle.files.specs.View.{View, act, jump, jumpIf, store, check, extent}
 use Rattle.coloring.specs.Unsafe.{safeAim, setOf, unsafeSets}
 use Rattle.coloring.specs.Class.{unsafeObject, sameClass}
-use Rattle.layout.specs.Layout.{Piece, startOf, fits}
+use Rattle.layout.specs.Layout.{Piece, startOf}
 use Rattle.heap.specs.Memory.{everyByte}
 use Rattle.machine.specs.State.{Rule, Given}
 use Rattle.machine.specs.Runs.{Outcome, runs}

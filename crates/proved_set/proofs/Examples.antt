@@ -3,7 +3,7 @@ use Prim.Native.Nat.{ℕ, _+_}
 use mathlib.Core.Path.{_≡_, refl}
 use mathlib.Core.List.{List, [], _∷_, _++_, map}
 use mathlib.Core.Bool.{Bool, true, false}
-use lib.ListN.{length, getD, take, drop, replicate}
+use lib.ListN.{length, take, drop}
 use Rattle.numbers.specs.declared.Read.{Read}
 use Rattle.numbers.specs.Number.{readGroups, groups, readNumber}
 use Rattle.files.specs.declared.Object.{Object}
@@ -18,17 +18,15 @@ use Rattle.coloring.specs.Color.{lowestFrom, classesBelow, colorOf}
 use Rattle.coloring.specs.Colored.{tinted, colored, colorIn}
 use Rattle.layout.specs.Layout.{total, startOf, endOf, piecesOf}
 use Rattle.instrumenter.specs.Instrumented.{guarded, spanOf, newPlace, instrumented}
-use Rattle.instrumenter.specs.Guards.{Answer, file, instrument}
+use Rattle.instrumenter.specs.Answer.{Answer, file, instrument}
 use Rattle.heap.specs.Memory.{bytesOf, numberAt, put, fill, colorAt, everyByte}
-use Rattle.heap.specs.Heap.{Block, Walk, unsound, blocks, walk, blockAt, putHeader, sound, walkFrom, takeBlock, firstFit, alloc, freeIn, free, emptyHeap}
+use Rattle.heap.specs.Heap.{Walk, unsound, blocks, walk, blockAt, putHeader, sound, walkFrom, takeBlock, firstFit, alloc, freeIn, free, emptyHeap}
 use Rattle.machine.specs.declared.Run.{Run}
 use Rattle.machine.specs.Stop.{numberOf, placeOf, placesIn}
 use Rattle.machine.specs.State.{blankMemory}
 use Rattle.machine.specs.Step.{step}
 use Rattle.machine.specs.Runs.{Outcome, runFrom, runs}
 use Rattle.machine.specs.Colors.{tableRule, paintGlobals, blankTable, firstTable}
-use Rattle.plain.specs.Live.{Live, someLive, adding, removing}
-use Rattle.plain.specs.Plain.{plainPiecesFrom, globalsFrom, globals, plainRule, plainRun}
 
 -- ---- what the rows are made of
 

@@ -1,4 +1,4 @@
-use mathlib.Core.Path.{_≡_, refl, sym, subst, _∙_}
+use mathlib.Core.Path.{_≡_, refl, sym, subst}
 use mathlib.Core.List.{List, _∷_, map}
 use Prim.Native.Nat.{ℕ, _+_, _*_, _-_, _<_}
 use denote.Ref.{now}
@@ -11,7 +11,7 @@ use Rattle.files.specs.Program
 use Rattle.files.specs.Writing.{goodInstr, spellInstr}
 use Rattle.files.specs.Held.{tabulate, line}
 use Rattle.files.specs.Inside.{scopeOver}
-use Rattle.files.proofs.Measuring.{Adding, Fits, measure-good, measure-bad, was-good, was-bad, instr-length, add-none, add-more, add-stops, add-all, tabulate-more, tabulate-none, tabulate-all, map-take}
+use Rattle.files.proofs.Measuring.{Adding, measure-good, measure-bad, was-good, was-bad, instr-length, add-none, add-more, add-stops, add-all, tabulate-more, tabulate-none, tabulate-all, map-take}
 use Prim.Native.Nat.{_≤_}
 use Rattle.files.proofs.writing.code_length.Statement.{statement}
 use Rattle.files.proofs.writing.code_length.Tie as tie

@@ -1,5 +1,5 @@
 use lib.ListN.{length}
-use mathlib.Core.Path.{_≡_, sym, subst, _∙_}
+use mathlib.Core.Path.{sym, subst}
 use mathlib.Core.List.{List, _∷_}
 use Prim.Native.Nat.{ℕ, _+_, _*_, _-_, _<_, _≤_}
 use native.Mathlib.Omega.{arith}
@@ -8,7 +8,7 @@ use Rattle.files.specs.declared.Object.{Object}
 use Rattle.files.specs.Writing.{goodObject, spellObject}
 use Rattle.files.specs.Held.{tabulate}
 use Rattle.files.specs.Inside.{objectIn}
-use Rattle.files.proofs.Measuring.{Adding, Fits, measure-good, measure-bad, was-good, was-bad, object-length, add-none, add-more, add-stops, add-all, tabulate-more, tabulate-none, tabulate-all}
+use Rattle.files.proofs.Measuring.{Adding, measure-good, measure-bad, was-good, was-bad, object-length, add-none, add-more, add-stops, add-all, tabulate-more, tabulate-none, tabulate-all}
 use Rattle.files.proofs.writing.objects_length.Statement.{statement}
 use Rattle.files.proofs.writing.objects_length.Tie as tie
 use Rattle.files.proofs.writing.objects_length.Reads as reads

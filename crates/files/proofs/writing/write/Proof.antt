@@ -10,7 +10,7 @@ use Rattle.files.specs.declared.Written.{Written}
 use Rattle.files.specs.Held.{writable, fileOf, writtenIn, roomWith, shown}
 use Rattle.files.specs.Inside.{sayable}
 use Rattle.files.proofs.SpelledObjects.{both-each as both-true}
-use Rattle.files.proofs.Measuring.{Fits, was-good, was-bad}
+use Rattle.files.proofs.Measuring.{was-good, was-bad}
 use Rattle.files.proofs.Putting.{front}
 use borrow.Author.Needs.{needs}
 use Rattle.files.proofs.writing.write.Statement.{statement}

@@ -2,8 +2,7 @@ use Rattle.machine.proofs.Places.{counted}
 use Rattle.machine.specs.Stop.{counts}
 use Rattle.files.specs.declared.Instr.{Instr}
 use Rattle.files.specs.View.{view}
-use Prim.Native.Nat.{ℕ}
-use mathlib.Core.Path.{_≡_, sym, ap}
+use mathlib.Core.Path.{sym, ap}
 use borrow.Author.Needs.{needs}
 use Rattle.machine.proofs.place.count.Statement.{statement}
 use Rattle.machine.proofs.place.count.Tie as tie

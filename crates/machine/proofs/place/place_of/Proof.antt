@@ -1,12 +1,11 @@
 use Rattle.machine.proofs.Places.{blankLine}
 use lib.ListN.{getD}
 use Rattle.files.specs.View.{view}
-use Prim.Native.Nat.{ℕ, _<_, _+_}
+use Prim.Native.Nat.{ℕ, _<_}
 use mathlib.Core.Path.{_∙_, ap, refl}
 use borrow.Author.Tests.{ltb-true, ltb-false}
 use borrow.Author.Needs.{needs}
 use Rattle.machine.proofs.Places.{place-more, place-at, place-end, at-most-one}
-use borrow.Kind.Array.{eStruct, good-length}
 use native.Mathlib.Omega.{arith}
 use lib.ListN.{length}
 use Prim.Native.Nat.{_≤_, _-_}

@@ -1,5 +1,4 @@
 use Prim.Native.Nat.{ℕ}
-use Rattle.machine.specs.declared.Run.{Run}
 use mathlib.Core.Path.{ap}
 use borrow.Author.Needs.{needs}
 use Rattle.machine.proofs.place.recorded.Statement.{statement}

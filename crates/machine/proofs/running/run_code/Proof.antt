@@ -1,17 +1,16 @@
-use Prim.Native.Nat.{ℕ, _<_, _≤_}
+use Prim.Native.Nat.{ℕ, _<_}
 use mathlib.Core.Path.{_≡_, refl, sym, _∙_, ap, subst}
 use mathlib.Core.List.{List}
 use native.Mathlib.Omega.{arith}
 use borrow.Author.Needs.{needs}
 use denote.Ref.{now}
-use lib.ListN.{length, getD}
+use lib.ListN.{length}
 use Rattle.heap.specs.Memory.{memorySize, tableSize}
 use Rattle.machine.specs.declared.Turn.{Turn}
-use Rattle.files.specs.declared.Instr.{Instr}
 use Rattle.files.specs.declared.Line.{Line}
 use Rattle.machine.specs.declared.Run.{Run}
-use Rattle.machine.specs.Turn.{codeOf, Held, held, lentOf, answered, runHeld, turned, turnOf, recordOf}
-use Rattle.machine.proofs.Places.{blankLine, code-length, code-at}
+use Rattle.machine.specs.Turn.{codeOf, Held, held, lentOf, answered, runHeld, turned, turnOf}
+use Rattle.machine.proofs.Places.{code-length, code-at}
 use Rattle.machine.proofs.Going.{Course, Going, weightOf, AfterTurn, after-turn, stops-past, stops-limit, starts-off}
 use Rattle.machine.proofs.running.run_code.Statement.{statement}
 use Rattle.machine.proofs.running.run_code.Tie as tie

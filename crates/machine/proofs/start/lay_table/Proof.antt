@@ -1,12 +1,10 @@
 use Prim.Native.Nat.{ℕ, _≤_, _-_}
-use mathlib.Core.Path.{_≡_, refl, sym, _∙_, ap}
-use mathlib.Core.List.{List}
+use mathlib.Core.Path.{_≡_, refl, _∙_, ap}
 use native.Mathlib.Omega.{arith}
 use borrow.Author.Needs.{needs}
 use denote.Ref.{now}
 use lib.ListN.{length}
-use Rattle.heap.specs.Lent.{painted}
-use Rattle.machine.specs.Start.{paintHeld, laidTable}
+use Rattle.machine.specs.Start.{paintHeld}
 use Rattle.machine.proofs.Starting.{paint-next, paint-done, lays}
 use Rattle.machine.proofs.start.lay_table.Statement.{statement}
 use Rattle.machine.proofs.start.lay_table.Tie as tie

@@ -1,38 +1,16 @@
--- When a version 2 program guards a version 1 program, for any choice of color numbers that keeps the
--- classes apart; and what the instrumenter answers.
-use Prim.Native.Nat.{ℕ, _≤_, _<_}
-use mathlib.Core.Path.{_≡_}
-use mathlib.Core.List.{List, [], _++_}
-use mathlib.Core.Bool.{Bool, true, false}
+-- What the instrumenter answers: a file, or a refusal; "then 8 and 9, last 10".
+use Prim.Native.Nat.{ℕ}
+use mathlib.Core.List.{List, _++_}
+use mathlib.Core.Bool.{true, false}
 use lib.ListN.{length, drop}
 use lib.Dec.{leb}
 use Rattle.numbers.specs.declared.Refusal.{Refusal}
-use Rattle.files.specs.Program.{Program}
 use Rattle.files.specs.Reading.{Reading, whole, refusal, readFile}
 use Rattle.files.specs.Writing.{spellFile}
-use Rattle.coloring.specs.Unsafe.{unsafeSets}
-use Rattle.coloring.specs.Class.{unsafeObject, sameClass}
-use Rattle.coloring.specs.Colored.{withColors, colorIn, colored}
+use Rattle.coloring.specs.Colored.{colorIn, colored}
 use Rattle.layout.specs.Layout.{piecesOf, fits}
 use Rattle.instrumenter.specs.Instrumented.{instrumented}
 use Rattle.instrumenter.specs.declared.Instrumented.{Instrumented}
-
--- colors that give 0 exactly to the safe objects, and two unsafe objects one number exactly when they
--- are of one class; numbers from 2 up to 255, as a file has them
-pub record Exact (sets : List (List ℕ)) (color : ℕ → ℕ) : Type 0 where
-  pub safe : (x : ℕ) → unsafeObject sets x ≡ false → color x ≡ 0
-  pub low : (x : ℕ) → unsafeObject sets x ≡ true → 2 ≤ color x
-  pub high : (x : ℕ) → color x ≤ 255
-  pub apart : (x y : ℕ) → unsafeObject sets x ≡ true → color x ≡ color y → sameClass sets x y ≡ true
-  pub together : (x y : ℕ) → sameClass sets x y ≡ true → color x ≡ color y
-
--- q guards p: it is version 2 of p under some exact colors
-pub record Guards (p q : Program) : Type 0 where
-  pub color : ℕ → ℕ
-  pub exact : Exact (unsafeSets p) color
-  pub form : q ≡ instrumented color p
-
--- ---- what the instrumenter answers: a file, or a refusal; "then 8 and 9, last 10"
 
 pub data Answer : Type 0 where
   file : List ℕ → Answer
