@@ -13,6 +13,7 @@ use Rattle.files.specs.declared.Instr.the-variants.{End, Place, Add, Sub, Less,
 use Rattle.files.specs.Program.{Program}
 use Rattle.files.specs.View.{one, four, Aim, inGlobal, atTemp, View, act, jump, jumpIf, store, check, view, checkInstr}
 use Rattle.instrumenter.specs.Instrumented.{checkOf, moved, guarded, spanOf, newPlace}
+use Rattle.instrumenter.proofs.Spans.{length-guarded}
 
 -- what an instruction is in version 2
 abbrev pub movedView : (target : ℕ → ℕ) → View → View
@@ -61,13 +62,6 @@ module _ (color : ℕ → ℕ) (p : Program) where
       ap (λ r. checkOf color p (view x) ++ (moved target x ∷ r)) (guarded-append target xs ys)
       ∙ sym (append-assoc (checkOf color p (view x)) (moved target x ∷ guarded color p target xs) (guarded color p target ys))
 
-  pub length-guarded : (target : ℕ → ℕ) (code : List Instr) → length (guarded color p target code) ≡ spanOf color p code
-  unfolding guarded spanOf
-  length-guarded target [] = refl
-  length-guarded target (i ∷ code) =
-      length-append (checkOf color p (view i)) (moved target i ∷ guarded color p target code)
-      ∙ omega (arith, length-guarded target code)
-
   span-append : (xs ys : List Instr) → spanOf color p (xs ++ ys) ≡ spanOf color p xs + spanOf color p ys
   unfolding spanOf
   span-append [] ys = omega arith
@@ -83,7 +77,7 @@ module _ (color : ℕ → ℕ) (p : Program) where
 
   pub length-before₂ : (k : ℕ) → length (before₂ k) ≡ newPlace color p k
   unfolding newPlace
-  length-before₂ k = length-guarded (newPlace color p) (take k (p .code))
+  length-before₂ k = length-guarded color p (newPlace color p) (take k (p .code))
 
   pub place-past : (k : ℕ) → length (p .code) ≤ k → length code₂ ≡ newPlace color p k
   place-past k past =
@@ -113,9 +107,6 @@ module _ (color : ℕ → ℕ) (p : Program) where
         ap length parts₂
         ∙ length-append (before₂ k) _
         ∙ ap₂ _+_ (length-before₂ k) (length-append (checkOf color p (view instr)) _)
-
-    pub place-inside : newPlace color p k < length code₂
-    place-inside = omega (arith, length-parts)
 
     -- an instruction with no check stands at its new place
     pub record Alone : Type 0 where

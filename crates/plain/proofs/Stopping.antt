@@ -24,6 +24,7 @@ use Rattle.machine.specs.Step.{Effect, stops, passes, completes, Next, stop, ne
 use Rattle.machine.specs.Runs.{stopped, runFrom, turnsFor, runs}
 use Rattle.machine.specs.Colors.{tableRule, firstTable}
 use Rattle.machine.proofs.Steps.{stop-not-next, next-same, stop-same}
+use Rattle.machine.proofs.Turns.{turn-on, turn-stop}
 use Rattle.plain.specs.Plain.{plainRule}
 use Rattle.plain.specs.Demands.{Reaches, Stops, EveryRunStops}
 
@@ -64,16 +65,6 @@ module _ {S : Type 0} (rule : Rule S) (given : Given) where
 
   -- ---- the turns are enough
 
-  turn-on : (turns : ℕ) (state after : State S) → step rule given state ≡ next after
-      → runFrom rule given (suc turns) state ≡ runFrom rule given turns after
-  unfolding runFrom
-  turn-on turns state after e = rw (e, runFrom)
-
-  turn-stop : (turns : ℕ) (state : State S) (reason : Reason) → step rule given state ≡ stop reason
-      → runFrom rule given (suc turns) state ≡ stopped rule given state reason
-  unfolding runFrom
-  turn-stop turns state reason e = rw (e, runFrom)
-
   module _ (start : State S) where
     -- how a run from a state ends, with so many turns
     record Ends (turns : ℕ) (state : State S) : Type 0 where
@@ -112,7 +103,7 @@ module _ {S : Type 0} (rule : Rule S) (given : Given) where
               reason = reason;
               reached = reached;
               stopping = e;
-              outcome = turn-stop turns state reason e;
+              outcome = turn-stop rule given turns state reason e;
               limited = omega arith;
             }
         go later (next after) e f =
@@ -124,7 +115,7 @@ module _ {S : Type 0} (rule : Rule S) (given : Given) where
               reason = end .reason;
               reached = end .reached;
               stopping = end .stopping;
-              outcome = turn-on turns state after e ∙ end .outcome;
+              outcome = turn-on rule given turns state after e ∙ end .outcome;
               limited = end .limited;
             }
 
