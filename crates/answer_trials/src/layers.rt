@@ -12,6 +12,7 @@ use instrumenter::Instrumented;
 use numbers::Cursor;
 use numbers::Read;
 use numbers::Refusal;
+use writer::Written;
 
 // A refusal with the digest of a room, 0 where none was lent.
 fn refused(q: Refusal, room: u32) -> [u32; 8] {
@@ -93,13 +94,13 @@ fn write_file_in(file: &[u8], room: &mut [u8]) -> [u32; 8] {
     if let Outcome::Refused(q) = outcome {
         return refused(q, digest_bytes(room));
     }
-    let written = files::write_program(p, room);
+    let written = writer::write_program(p, room);
     let digest = digest_bytes(room);
     match written {
-        files::Written::Upto(length) => [0, 0, word(length), 0, 0, digest, 0, 0],
-        files::Written::TooSmall => too_small(digest),
+        Written::Upto(length) => [0, 0, word(length), 0, 0, digest, 0, 0],
+        Written::TooSmall => too_small(digest),
         // Never so for a file that was read: no refusal has this number.
-        files::Written::NoProgram => [99, 0, 0, 0, 0, digest, 0, 0],
+        Written::NoProgram => [99, 0, 0, 0, 0, digest, 0, 0],
     }
 }
 

@@ -3,17 +3,17 @@
 use crate::digest::EMPTY;
 use crate::digest::joined;
 use crate::lent::word;
-use coloring::Parts;
-use coloring::opcodes::parts_of;
 use files::Line;
 use files::Loaded;
+use files::table::Parts;
+use files::table::parts_of;
 
 fn wide(n: u16) -> u32 {
     n as u32
 }
 
 // How many operands an opcode has in a version: a WRITE names its set in version 1 alone.
-fn operands_of(opcode: u8, version: u8) -> u8 {
+fn operands_of(opcode: u32, version: u8) -> u8 {
     match opcode {
         0 => 0,
         12 | 15 | 16 | 17 => 1,
@@ -81,8 +81,8 @@ fn sets<'a>(held: u32, ends: &'a [u16; 400], members: &'a [u16; 16384], count: u
 
 // An instruction: its opcode and its operands.
 fn instruction(held: u32, version: u8, parts: Parts) -> u32 {
-    let operands = operands_of(parts.opcode, version);
-    let mut h = joined(held, parts.opcode as u32);
+    let operands = operands_of(parts.op, version);
+    let mut h = joined(held, parts.op);
     if 0 < operands {
         h = joined(h, parts.x);
     }

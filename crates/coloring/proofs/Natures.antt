@@ -7,12 +7,12 @@ use lib.ListN.{getD}
 use borrow.Author.Tests.{lt-ltb, le-ltb}
 use Rattle.files.specs.declared.Instr.{Instr}
 use Rattle.files.specs.declared.Instr.the-variants.{End, Place, Add, Sub, Less, Load8, Load32, Put8, Put32, Write8, Write32, Jump, JumpIf, Alloc, Free, In, Out, Check8, Check32, CheckPut8, CheckPut32}
+use Rattle.files.specs.declared.table.Parts.{Parts}
 use Rattle.files.specs.Table.{make, partsOf}
 use Rattle.files.specs.View.{view}
 use Rattle.files.proofs.SpelledInstructions.{make-parts}
 use Rattle.coloring.specs.declared.Nature.{Nature}
-use Rattle.coloring.specs.declared.Parts.{Parts}
-use Rattle.coloring.specs.Nature.{putNature, natureOf, sizesIn, inParts}
+use Rattle.coloring.specs.Nature.{putNature, natureOf, sizesIn}
 
 module _ (size : ℕ → ℕ) (op x y z : ℕ) where
   abbrev made : Nature
@@ -131,8 +131,8 @@ nature-size f (Check32 a c) = refl
 nature-size f (CheckPut8 g k c) = refl
 nature-size f (CheckPut32 g k c) = refl
 
-pub nature-whole : (f : ℕ → ℕ) (i : Instr) (r : Parts) (size : ℕ) → r ≡ inParts (partsOf i) → size ≡ f (r .x)
-    → natureOf (λ g. size) (view (make (r .opcode) (r .x) (r .y) (r .z))) ≡ natureOf f (view i)
+pub nature-whole : (f : ℕ → ℕ) (i : Instr) (r : Parts) (size : ℕ) → r ≡ partsOf i → size ≡ f (r .x)
+    → natureOf (λ g. size) (view (make (r .op) (r .x) (r .y) (r .z))) ≡ natureOf f (view i)
 nature-whole f i r size e s = rw s (rw e (rw (make-parts i) (nature-size f i)))
 
 pub sizes-inside : (l : List ℕ) (g : ℕ) → g < 400 → sizesIn l g ≡ getD l g 0

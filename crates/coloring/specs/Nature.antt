@@ -5,9 +5,7 @@ use mathlib.Core.List.{List}
 use lib.ListN.{getD}
 use lib.Dec.{leb, ltb}
 use Rattle.files.specs.View.{Aim, inGlobal, atTemp, View, act, jump, jumpIf, store, check, bytes, extent}
-use Rattle.files.specs.Table
 use Rattle.coloring.specs.declared.Nature.{Nature}
-use Rattle.coloring.specs.declared.Parts.{Parts}
 
 -- "A PUT is safe when its last byte lies inside the global's size rounded up to eight. Every other PUT
 -- is unsafe with the set {g}": of n bytes at byte k of global g
@@ -31,7 +29,3 @@ natureOf size (check aim c) = Nature.Check
 -- the sizes of an array of 400, and 0 past its end
 abbrev pub sizesIn : List ℕ → ℕ → ℕ
 sizesIn sizes g = elim (ltb g 400) [ true ↦ getD sizes g 0 | false ↦ 0 ]
-
--- opcode and operands as the code holds them
-abbrev pub inParts : Table.Parts → Parts
-inParts q = record { opcode = q .op; x = q .x; y = q .y; z = q .z }

@@ -36,14 +36,6 @@ pub enum Nature {
     Other,
 }
 
-// An instruction's opcode number and its operands in the order of the file, 0 where there is none.
-pub struct Parts {
-    pub opcode: u8,
-    pub x: u32,
-    pub y: u32,
-    pub z: u32,
-}
-
 // There are colors for 254 classes. Of a refused routine everything is blank but the refusal.
 fn too_many() -> Loaded
     ensures { λ r. ⌜ r ≡ held (Reading.refused (refusal 8 0)) ⌝ }

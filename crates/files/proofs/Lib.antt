@@ -1,20 +1,19 @@
 -- What `files` promises, and what carries it.
 --
 -- Any bytes are read as version 1 or 2: the whole program, or the first refusal from left to right
--- (`read_routine`, `read_program`: equations with `held (readFile ..)`). Any held value is written as
--- version 2, or answered `TooSmall` or `NoProgram` with no byte changed (`write_program`: equations with
--- `writtenIn` and `roomWith`).
+-- (`read_routine`, `read_program`: equations with `held (readFile ..)`). The functions of `table` are
+-- equations with the definitions of the table for every number; the crate `writer` goes by them.
 --
 -- About the definitions, for the crates above: what is written for a good program is read back as exactly
 -- that program (`RoundTrip.reads-back`); what is read is a good program and the file is byte for byte its
--- spelling (`RoundTrip.one-spelling`), so a program has one spelling; both for each version by one law.
+-- spelling (`RoundTrip.one-spelling`), so a program has one spelling; both for each version by one law,
+-- number by number, object by object, list by list (`SpelledNumbers`, `SpelledObjects`,
+-- `SpelledInstructions`, `SpelledLists`).
 --
 -- How the code comes to it: what judging a number answers (`Judging`); one object and one instruction
 -- (`OneObject`, `OneInstr`); the loops over them (`ObjectLoop`, `MemberLoop`, `SetLoop`, `CodeLoop`); arrays
--- of which the first elements count (`Filled`, `Parts`); the stages of a file (`Stages`). Writing measures
--- and judges first (`Measuring`), then puts number after number (`Putting`) for what the arrays show
--- (`Shown`).
-mod Filled
+-- of which the first elements count (`Filled`, `Parts`); the stages of a file (`Stages`).
+pub mod Filled
 mod Judging
 mod OneObject
 mod ObjectLoop
@@ -24,9 +23,6 @@ mod MemberLoop
 mod SetLoop
 mod Parts
 mod Stages
-mod Measuring
-mod Putting
-mod Shown
 pub mod SpelledNumbers
 pub mod SpelledObjects
 pub mod SpelledInstructions

@@ -14,9 +14,9 @@ use Rattle.files.specs.declared.Operand.{Operand}
 use Rattle.files.specs.declared.Scope as declared
 use Rattle.files.specs.declared.InstrRead.{InstrRead}
 use Rattle.files.specs.Table.{rowOf, make}
-use Rattle.files.specs.Program.{Scope, within, isKind, hasSets, present, allowed, lastOpcode}
+use Rattle.files.specs.Program.{Scope, within, isKind, hasSets, present, allowed, lastOpcode, scopeOver}
 use Rattle.files.specs.Reading.{judged, afterOpcode, afterFirst, afterSecond, afterThird, operandAt, readInstr}
-use Rattle.files.specs.Inside.{scopeOver, roof, Small}
+use Rattle.files.specs.Inside.{roof, Small}
 use Rattle.files.proofs.Judging.{Field, right, field-of-read, within-bounds, good}
 
 module _ (scope : Scope) (file : List ℕ) (at : ℕ) where

@@ -10,10 +10,10 @@ use Rattle.numbers.specs.declared.Refusal.{Refusal}
 use Rattle.files.specs.declared.Object.{Object}
 use Rattle.files.specs.declared.Instr.{Instr}
 use Rattle.files.specs.declared.Ended.{Ended}
-use Rattle.files.specs.declared.reading.Objects.{Objects}
-use Rattle.files.specs.declared.reading.SetRead.{SetRead}
-use Rattle.files.specs.declared.reading.Sets.{Sets}
-use Rattle.files.specs.declared.reading.Code.{Code}
+use Rattle.files.specs.declared.objects.Objects.{Objects}
+use Rattle.files.specs.declared.sets.SetRead.{SetRead}
+use Rattle.files.specs.declared.sets.Sets.{Sets}
+use Rattle.files.specs.declared.instructions.Code.{Code}
 use Rattle.files.specs.Reading.{Parsed, got, refused, cursor}
 use Rattle.files.specs.Inside.{Are, ObjectsHeld, ObjectsAre, SetIs, SetsHeld, SetsAre, CodeHeld, CodeIs}
 

@@ -16,7 +16,8 @@ use Rattle.files.specs.declared.Operand.{Operand}
 use Rattle.files.specs.declared.Instr.{Instr}
 use Rattle.files.specs.declared.Instr.the-variants.{End, Place, Add, Sub, Less, Load8, Load32, Put8, Put32, Write8, Write32, Jump, JumpIf, Alloc, Free, In, Out, Check8, Check32, CheckPut8, CheckPut32}
 use Rattle.files.specs.declared.InstrRead.{InstrRead}
-use Rattle.files.specs.Table.{rowOf, make, Parts, partsOf}
+use Rattle.files.specs.declared.table.Parts.{Parts}
+use Rattle.files.specs.Table.{rowOf, make, partsOf}
 use Rattle.files.specs.Program.{Scope, within, present, allowed, isKind, lastOpcode}
 use Rattle.files.specs.Reading.{cursor, judged, readInstr, afterOpcode, afterFirst, afterSecond, afterThird, operandAt}
 use Rattle.files.specs.Writing.{spellIf, spellParts, spellInstr, goodOperand, goodParts, goodInstr, both}
@@ -316,28 +317,3 @@ read-of-instr scope file at bounded i next s g =
     ∙ ap (afterSecond scope file (p .op) (p .x)) (read-of-operand scope bounded file (rowOf (p .op) .second) _ (p .y) _ s₃ (good .second))
     ∙ ap (afterThird (p .op) (p .x) (p .y)) (read-of-operand scope bounded file (rowOf (p .op) .third) _ (p .z) next s₄ (good .third))
     ∙ ap (λ (j : Instr). InstrRead.Instr j (cursor next)) (make-parts i)
-
--- every instruction has one of the 22 opcodes
-pub opcode-below : (i : Instr) → partsOf i .op < 22
-opcode-below End = omega arith
-opcode-below (Instr.Set d n) = omega arith
-opcode-below (Place d g) = omega arith
-opcode-below (Add d a b) = omega arith
-opcode-below (Sub d a b) = omega arith
-opcode-below (Less d a b) = omega arith
-opcode-below (Load8 d a) = omega arith
-opcode-below (Load32 d a) = omega arith
-opcode-below (Put8 g k a) = omega arith
-opcode-below (Put32 g k a) = omega arith
-opcode-below (Write8 a b s) = omega arith
-opcode-below (Write32 a b s) = omega arith
-opcode-below (Jump p) = omega arith
-opcode-below (JumpIf a p) = omega arith
-opcode-below (Alloc d g a) = omega arith
-opcode-below (Free a) = omega arith
-opcode-below (In d) = omega arith
-opcode-below (Out a) = omega arith
-opcode-below (Check8 a c) = omega arith
-opcode-below (Check32 a c) = omega arith
-opcode-below (CheckPut8 g k c) = omega arith
-opcode-below (CheckPut32 g k c) = omega arith

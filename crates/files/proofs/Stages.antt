@@ -13,13 +13,13 @@ use Rattle.files.specs.declared.Object.{Object}
 use Rattle.files.specs.declared.Instr.{Instr}
 use Rattle.files.specs.declared.Outcome.{Outcome}
 use Rattle.files.specs.declared.Ended.{Ended}
-use Rattle.files.specs.declared.reading.Objects.{Objects}
-use Rattle.files.specs.declared.reading.Sets.{Sets}
-use Rattle.files.specs.declared.reading.Code.{Code}
+use Rattle.files.specs.declared.objects.Objects.{Objects}
+use Rattle.files.specs.declared.sets.Sets.{Sets}
+use Rattle.files.specs.declared.instructions.Code.{Code}
 use Rattle.files.specs.Program.{kindsOf, hasSets, longest, mostCode, within}
 use Rattle.files.specs.Reading.{got, refused, Reading, whole, refusal, judged, afterVersion, afterObjectCount, afterObjects, afterSetCount, afterSets, afterCodeCount, afterCode, readFile}
 use Rattle.files.specs.Held.{held, heldAs}
-use Rattle.files.specs.Inside.{objectsAfter, objectsBehind, objectsOf, setsAfter, setsOf, codeAfter, codeOf, ObjectsAre, ObjectsHeld, SetsAre, SetsHeld, CodeIs, CodeHeld}
+use Rattle.files.specs.Inside.{objectsAfter, objectsBehind, objectsOf, setsAfter, setsOf, codeAfter, codeOf, ObjectsAre, ObjectsHeld, SetsAre, SetsHeld, CodeIs, CodeHeld, wholeOf}
 use Rattle.files.proofs.Filled.{take-filled}
 use Rattle.files.proofs.Parts.{objects-read, objects-refused, sets-read, sets-refused, code-read, code-refused}
 
@@ -156,37 +156,13 @@ module _ (version : ℕ) (file : List ℕ) where
     pub bytes-behind : (next .at ≡ length file → ⊥) → readFile version file ≡ Reading.refused (refusal 7 (next .at))
     bytes-behind h = p .read ∙ simp (ne-eqb _ _ h, afterCode)
 
-    pub all-read : next .at ≡ length file
-        → record {
-          outcome = Outcome.Whole;
-          objects = o .count;
-          kinds = o .kinds;
-          sizes = o .sizes;
-          colors = o .colors;
-          sets = s .count;
-          ends = s .ends;
-          members = s .members;
-          lines = k .lines;
-          code = k .code;
-        }
-        ≡ held (readFile version file)
+    pub all-read : next .at ≡ length file → wholeOf o s k ≡ held (readFile version file)
     all-read e =
         let ho = p .held-objects in
         let hs = p .held-sets in
         let hc = p .held-code in
         let done : readFile version file ≡ whole (record { objects = p .os; sets = p .ss; code = p .is }) = p .read ∙ simp (eq-eqb _ _ e, afterCode) in
-        let all : record {
-          outcome = Outcome.Whole;
-          objects = o .count;
-          kinds = o .kinds;
-          sizes = o .sizes;
-          colors = o .colors;
-          sets = s .count;
-          ends = s .ends;
-          members = s .members;
-          lines = k .lines;
-          code = k .code;
-        } ≡ heldAs Outcome.Whole (record { objects = p .os; sets = p .ss; code = p .is }) =
+        let all : wholeOf o s k ≡ heldAs Outcome.Whole (record { objects = p .os; sets = p .ss; code = p .is }) =
         (λ i. record {
           outcome = Outcome.Whole;
           objects = ho .count i;

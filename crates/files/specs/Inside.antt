@@ -3,7 +3,7 @@ use Prim.Native.Nat.{ℕ, _+_, _<_, _≤_}
 use mathlib.Core.Path.{_≡_}
 use mathlib.Core.List.{List, [], map}
 use mathlib.Core.Bool.{Bool, true, false}
-use lib.ListN.{length, getD, take}
+use lib.ListN.{length}
 use lib.Seq.{sets}
 use lib.Dec.{ltb, leb}
 use Rattle.numbers.specs.declared.Refusal.{Refusal}
@@ -11,27 +11,20 @@ use Rattle.numbers.specs.declared.Read.{Read}
 use Rattle.files.specs.declared.Operand.{Operand}
 use Rattle.files.specs.declared.Object.{Object}
 use Rattle.files.specs.declared.Instr.{Instr}
-use Rattle.files.specs.declared.Line.{Line}
 use Rattle.files.specs.declared.Scope.{Scope}
 use Rattle.files.specs.declared.ObjectRead.{ObjectRead}
 use Rattle.files.specs.declared.InstrRead.{InstrRead}
 use Rattle.files.specs.declared.Ended.{Ended}
-use Rattle.files.specs.declared.reading.Objects.{Objects}
-use Rattle.files.specs.declared.reading.SetRead.{SetRead}
-use Rattle.files.specs.declared.reading.Sets.{Sets}
-use Rattle.files.specs.declared.reading.Code.{Code}
-use Rattle.files.specs.declared.writing.Coded.{Coded}
-use Rattle.files.specs.declared.writing.Length.{Length}
-use Rattle.files.specs.Table.{rowOf, Parts}
-use Rattle.files.specs.Program
+use Rattle.files.specs.declared.Outcome.{Outcome}
+use Rattle.files.specs.declared.Loaded.{Loaded}
+use Rattle.files.specs.declared.objects.Objects.{Objects}
+use Rattle.files.specs.declared.sets.SetRead.{SetRead}
+use Rattle.files.specs.declared.sets.Sets.{Sets}
+use Rattle.files.specs.declared.instructions.Code.{Code}
+use Rattle.files.specs.Table.{rowOf}
 use Rattle.files.specs.Program.{hasSets, mostCode, within}
 use Rattle.files.specs.Reading.{Parsed, got, refused, refusal, cursor, judged, objectsFrom, setsFrom, codeFrom}
-use Rattle.files.specs.Writing.{spellAll, spellObject, spellInstr, every, both, goodObject, goodInstr, goodProgram}
-use Rattle.files.specs.Held.{filled, line, endsFrom, joined, tabulate}
-
--- what operands may name: the code's scope with the objects' kinds
-abbrev pub scopeOver : Scope → (kinds : List ℕ) → Program.Scope
-scopeOver scope kinds = record { version = scope .version; kinds = kinds; sets = scope .sets; code = scope .lines }
+use Rattle.files.specs.Held.{filled, line, endsFrom, joined}
 
 -- ---- the numbers of an operand's kind lie below its roof, and so fit the field that holds them
 
@@ -177,33 +170,18 @@ pub record CodeHeld (is : List Instr) (next : ℕ) (r : Code) : Type 0 where
 abbrev pub CodeIs : Parsed (List Instr) → Code → Type 0
 CodeIs = Are (λ r. r .ended) CodeHeld
 
--- ---- writing
-
-abbrev pub codedAs : Parts → Coded
-codedAs p = record { op = p .op; x = p .x; y = p .y; z = p .z }
-
--- how long what is good is
-abbrev pub measured : Bool → ℕ → Length
-measured good bytes = elim good [ true ↦ Length.Good bytes | false ↦ Length.Bad ]
-
-abbrev pub objectIn : (kinds sizes colors : List ℕ) → ℕ → Object
-objectIn kinds sizes colors i = record { kind = getD kinds i 0; size = getD sizes i 0; color = getD colors i 0 }
-
--- many things one after the other
-abbrev pub objectsMeasured : List Object → Length
-objectsMeasured os = measured (every (goodObject 2) os) (length (spellAll (spellObject 2) os))
-
-abbrev pub codeMeasured : Program.Scope → List Instr → Length
-codeMeasured scope is = measured (every (goodInstr scope) is) (length (spellAll (spellInstr (scope .version)) is))
-
--- the program of version 2 that arrays show
-abbrev pub shownIn : (count lines : ℕ) → (kinds sizes colors : List ℕ) → List Line → Program.Program
-shownIn count lines kinds sizes colors code =
+-- a file that was read to its end, from its parts
+abbrev pub wholeOf : Objects → Sets → Code → Loaded
+wholeOf o s k =
     record {
-      objects = tabulate (objectIn kinds sizes colors) 0 count;
-      sets = [];
-      code = map (λ x. x .instr) (take lines code);
+      outcome = Outcome.Whole;
+      objects = o .count;
+      kinds = o .kinds;
+      sizes = o .sizes;
+      colors = o .colors;
+      sets = s .count;
+      ends = s .ends;
+      members = s .members;
+      lines = k .lines;
+      code = k .code;
     }
-
-abbrev pub sayable : (count lines : ℕ) → Program.Program → Bool
-sayable count lines p = both (leb count 400) (both (leb lines 2000) (goodProgram 2 p))

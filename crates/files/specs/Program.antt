@@ -7,6 +7,7 @@ use lib.Dec.{ltb, leb, eqb}
 use Rattle.files.specs.declared.Operand.{Operand}
 use Rattle.files.specs.declared.Object.{Object}
 use Rattle.files.specs.declared.Instr.{Instr}
+use Rattle.files.specs.declared.Scope as declared
 
 -- "the count of objects ..; the count of sets ..; the count of instructions .. and the instructions"
 pub record Program : Type 0 where
@@ -47,6 +48,10 @@ pub record Scope : Type 0 where
   pub kinds : List ℕ
   pub sets : ℕ
   pub code : ℕ
+
+-- the code's scope with the objects' kinds
+abbrev pub scopeOver : declared.Scope → (kinds : List ℕ) → Scope
+scopeOver scope kinds = record { version = scope .version; kinds = kinds; sets = scope .sets; code = scope .lines }
 
 -- "kind 0 (global)", "kind 1 (heap site)": g names an object, and one of the kind stated
 abbrev pub isKind : (kinds : List ℕ) → (kind g : ℕ) → Bool

@@ -4,6 +4,7 @@ use mathlib.Core.List.{List, [], _∷_}
 use lib.ListN.{getD}
 use Rattle.files.specs.declared.Operand.{Operand}
 use Rattle.files.specs.declared.Row.{Row}
+use Rattle.files.specs.declared.table.Parts.{Parts}
 use Rattle.files.specs.declared.Instr.{Instr}
 use Rattle.files.specs.declared.Instr.the-variants.{End, Place, Add, Sub, Less, Load8, Load32, Put8, Put32, Write8, Write32, Jump, JumpIf, Alloc, Free, In, Out, Check8, Check32, CheckPut8, CheckPut32}
 
@@ -77,16 +78,10 @@ makers =
 abbrev pub make : (op x y z : ℕ) → Instr
 make op = getD makers op (λ x y z. End)
 
--- an instruction's opcode and operands, 0 where there is none
-pub record Parts : Type 0 where
-  pub op : ℕ
-  pub x : ℕ
-  pub y : ℕ
-  pub z : ℕ
-
 abbrev parts4 : (op x y z : ℕ) → Parts
 parts4 op x y z = record { op = op; x = x; y = y; z = z }
 
+-- an instruction's opcode and operands, 0 where there is none
 abbrev pub partsOf : Instr → Parts
 partsOf End = parts4 0 0 0 0
 partsOf (Instr.Set d n) = parts4 1 d n 0

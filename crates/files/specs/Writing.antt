@@ -8,7 +8,8 @@ use Rattle.numbers.specs.Number.{spell}
 use Rattle.files.specs.declared.Operand.{Operand}
 use Rattle.files.specs.declared.Object.{Object}
 use Rattle.files.specs.declared.Instr.{Instr}
-use Rattle.files.specs.Table.{rowOf, Parts, partsOf}
+use Rattle.files.specs.declared.table.Parts.{Parts}
+use Rattle.files.specs.Table.{rowOf, partsOf}
 use Rattle.files.specs.Program.{Program, Scope, hasColors, hasSets, mostCode, longest, lastOpcode, within, isColor, kindsOf, present, allowed}
 
 -- what each element of a list is spelled as, one after the other

@@ -1,16 +1,21 @@
-// Files: routines (version 1) and instrumented code (version 2), read from bytes and written to them.
+// Files: routines (version 1) and instrumented code (version 2), read from bytes.
 //
 // A file is numbers and nothing else. Reading gives the whole of what the file says, or the first
-// refusal from left to right.
+// refusal from left to right. The crate `writer` writes files of version 2; what it promises is said
+// here, so that both directions go by one definition of a file.
 use numbers::Cursor;
 use numbers::Refusal;
 ghost use mathlib.Core.Path.{_≡_};
 ghost use Rattle.files.specs.Reading.{readFile};
-ghost use Rattle.files.specs.Held.{held, writtenIn, roomWith};
+ghost use Rattle.files.specs.Held.{held};
 
-mod reading; // reading.rt: files are read
-mod table; // table.rt: the table of the opcodes, and the ranges of operands
-mod writing; // writing.rt: programs are written
+mod blank; // blank.rt: arrays of which nothing counts yet
+mod fields; // fields.rt: numbers in their ranges
+mod instructions; // instructions.rt: the instructions of a file
+mod objects; // objects.rt: the objects of a file
+mod reading; // reading.rt: whole files
+mod sets; // sets.rt: the sets of a file
+pub mod table; // table.rt: the table of the opcodes, and the ranges of operands
 
 // What an operand of an instruction names, and so its range; `None` where there is no operand.
 pub enum Operand {
@@ -72,10 +77,10 @@ pub struct Object {
 }
 
 // What the operands of an instruction may name, beside the objects' kinds.
-struct Scope {
-    version: u8,
-    sets: usize,
-    lines: usize,
+pub struct Scope {
+    pub version: u8,
+    pub sets: usize,
+    pub lines: usize,
 }
 
 // What reading one object answers.
@@ -120,7 +125,7 @@ pub struct Loaded {
     pub code: [Line; 2000],
 }
 
-// What writing a program answers.
+// What writing a program answers (the crate `writer`).
 pub enum Written {
     // The length of the file.
     Upto(usize),
@@ -142,12 +147,4 @@ pub fn read_program(file: &[u8]) -> Loaded
     ensures { λ r. ⌜ r ≡ held (readFile 2 (now (file .entry))) ⌝ }
 {
     reading::read_file(file, 2)
-}
-
-// Writes what is held as a file of version 2 into a room.
-pub fn write_program(p: Loaded, room: &mut [u8]) -> Written
-    ensures answer { λ r. ⌜ r ≡ writtenIn (now (room .entry)) p ⌝ }
-    ensures room { λ r. ⌜ now (room .exit) ≡ roomWith (now (room .entry)) p ⌝ }
-{
-    writing::write(p, room)
 }

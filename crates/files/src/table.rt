@@ -1,14 +1,22 @@
 // One table of the opcodes gives for each its operands, and so their ranges. The reader and the writer
-// go by the same rows.
+// go by the same rows. Beside it: an instruction taken apart into its opcode and operands, and made of them.
 use super::Instr;
 use super::Operand;
 use super::Row;
 use super::Scope;
 ghost use mathlib.Core.Path.{_≡_};
-ghost use Prim.Native.Nat.{_<_, _%_};
-ghost use Rattle.files.specs.Table.{rowOf, make};
-ghost use Rattle.files.specs.Program.{hasSets, lastOpcode, within, isColor, isKind, present, allowed};
-ghost use Rattle.files.specs.Inside.{scopeOver, Fitting};
+ghost use Prim.Native.Nat.{_<_};
+ghost use Rattle.files.specs.Table.{rowOf, make, partsOf};
+ghost use Rattle.files.specs.Program.{lastOpcode, within, isColor, isKind, present, scopeOver, allowed};
+ghost use Rattle.files.specs.Inside.{Fitting};
+
+// An instruction's opcode and its operands in the order of the file, 0 where there is none.
+pub struct Parts {
+    pub op: u32,
+    pub x: u32,
+    pub y: u32,
+    pub z: u32,
+}
 
 // The operands of the opcodes 0 to 21, in the order of the opcodes.
 const ROWS: [Row; 22] = [
@@ -124,11 +132,18 @@ const ROWS: [Row; 22] = [
     },
 ];
 
+// The operands of an opcode; a number that is no opcode has none.
 pub fn row_of(op: u32) -> Row
-    requires { ⌜ op < 22 ⌝ }
     ensures { λ r. ⌜ r ≡ rowOf op ⌝ }
 {
     let at = op as usize;
+    if 22 <= at {
+        return Row {
+            first: Operand::None,
+            second: Operand::None,
+            third: Operand::None,
+        };
+    }
     ROWS[at]
 }
 
@@ -156,6 +171,7 @@ pub fn is_present(version: u8, kind: Operand) -> bool
     }
 }
 
+// Whether a number lies from `low` to `high`.
 pub fn is_within(low: u32, high: u32, n: u32) -> bool
     ensures { λ r. ⌜ r ≡ within low high n ⌝ }
 {
@@ -169,7 +185,7 @@ pub fn is_color(n: u32) -> bool
     n == 0 || is_within(2, 255, n)
 }
 
-// Whether g names an object, and one of the kind stated.
+// Whether `g` names an object, and one of the kind stated.
 fn is_kind(kinds: &[u8], kind: u8, g: u32) -> bool
     ensures { λ r. ⌜ r ≡ isKind (now (kinds .entry)) kind g ⌝ }
 {
@@ -210,7 +226,7 @@ fn low_half(n: u32) -> u16
 }
 
 // The instruction that an opcode makes of its operands; an operand that its row lacks is not looked at.
-pub fn instr_of(op: u32, x: u32, y: u32, z: u32) -> Instr
+pub(crate) fn instr_of(op: u32, x: u32, y: u32, z: u32) -> Instr
     requires { ⌜ Fitting op x y z ⌝ }
     ensures { λ r. ⌜ r ≡ make op x y z ⌝ }
 {
@@ -243,5 +259,48 @@ pub fn instr_of(op: u32, x: u32, y: u32, z: u32) -> Instr
         19 => Instr::Check32(x8, y8),
         20 => Instr::CheckPut8(x16, y16, z8),
         _ => Instr::CheckPut32(x16, y16, z8),
+    }
+}
+
+fn four(op: u32, x: u32, y: u32, z: u32) -> Parts
+    ensures { λ r. ⌜ r ≡ record { op = op; x = x; y = y; z = z } ⌝ }
+{
+    Parts { op, x, y, z }
+}
+
+// The same where every operand is a temporary or a color.
+fn small(op: u32, x: u8, y: u8, z: u8) -> Parts
+    ensures { λ r. ⌜ r ≡ record { op = op; x = x; y = y; z = z } ⌝ }
+{
+    four(op, x as u32, y as u32, z as u32)
+}
+
+// An instruction taken apart.
+pub fn parts_of(i: Instr) -> Parts
+    ensures { λ r. ⌜ r ≡ partsOf i ⌝ }
+{
+    match i {
+        Instr::End => four(0, 0, 0, 0),
+        Instr::Set(d, n) => four(1, d as u32, n, 0),
+        Instr::Place(d, g) => four(2, d as u32, g as u32, 0),
+        Instr::Add(d, a, b) => small(3, d, a, b),
+        Instr::Sub(d, a, b) => small(4, d, a, b),
+        Instr::Less(d, a, b) => small(5, d, a, b),
+        Instr::Load8(d, a) => small(6, d, a, 0),
+        Instr::Load32(d, a) => small(7, d, a, 0),
+        Instr::Put8(g, k, a) => four(8, g as u32, k as u32, a as u32),
+        Instr::Put32(g, k, a) => four(9, g as u32, k as u32, a as u32),
+        Instr::Write8(a, b, s) => four(10, a as u32, b as u32, s as u32),
+        Instr::Write32(a, b, s) => four(11, a as u32, b as u32, s as u32),
+        Instr::Jump(p) => four(12, p as u32, 0, 0),
+        Instr::JumpIf(a, p) => four(13, a as u32, p as u32, 0),
+        Instr::Alloc(d, g, a) => four(14, d as u32, g as u32, a as u32),
+        Instr::Free(a) => small(15, a, 0, 0),
+        Instr::In(d) => small(16, d, 0, 0),
+        Instr::Out(a) => small(17, a, 0, 0),
+        Instr::Check8(a, c) => small(18, a, c, 0),
+        Instr::Check32(a, c) => small(19, a, c, 0),
+        Instr::CheckPut8(g, k, c) => four(20, g as u32, k as u32, c as u32),
+        Instr::CheckPut32(g, k, c) => four(21, g as u32, k as u32, c as u32),
     }
 }

@@ -6,12 +6,12 @@ mod passes; // passes.rt: where the instructions go, and the code of version 2
 use coloring::read_colored;
 use files::Loaded;
 use files::Outcome;
-use files::Written;
-use files::write_program;
 use layout::lay_out;
 use numbers::Refusal;
 use passes::guarded_code;
 use passes::new_places;
+use writer::Written;
+use writer::write_program;
 ghost use mathlib.Core.Path.{_≡_};
 ghost use Prim.Native.Nat.{_≤_};
 ghost use lib.ListN.{length};

@@ -2,14 +2,10 @@ use borrow.Author.Tests.{eq-eqb, ne-eqb}
 use Rattle.files.specs.Program.{longest}
 use Rattle.files.proofs.reading.longest_file.Statement.{statement}
 use Rattle.files.proofs.reading.longest_file.Tie as tie
-use Rattle.files.proofs.reading.longest_file.Reads as reads
-use Rattle.files.proofs.reading.longest_file.Lts as lts
 
--- src/reading.rt:512:1
 returns : tie.Need-returns
 returns c = simp (eq-eqb _ _ (c .if1 .taken), longest)
 
--- src/reading.rt:512:1
 returns-2 : tie.Need-returns-2
 returns-2 c = simp (ne-eqb _ _ (c .if1 .left), longest)
 

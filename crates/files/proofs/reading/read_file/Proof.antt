@@ -13,20 +13,10 @@ use Rattle.files.proofs.Stages.{PastObjects, PastSets, PastCode, kinds-
 use borrow.Author.Needs.{needs}
 use Rattle.files.proofs.reading.read_file.Statement.{statement}
 use Rattle.files.proofs.reading.read_file.Tie as tie
-use Rattle.files.proofs.reading.read_file.Reads as reads
-use Rattle.files.proofs.reading.read_file.Lts as lts
-use Rattle.files.proofs.reading.code_of.Reads as code-of-reads
-use Rattle.files.proofs.reading.longest_file.Reads as longest-file-reads
-use Rattle.files.proofs.reading.objects_of.Reads as objects-of-reads
-use Rattle.files.proofs.reading.refused_file.Reads as refused-file-reads
-use Rattle.files.proofs.reading.sets_of.Reads as sets-of-reads
-use Rattle.files.proofs.reading.why_ended.Reads as why-ended-reads
 
--- src/reading.rt:529:8
 longest-file-requires : tie.Need-longest-file-requires
 longest-file-requires c κs = search needs
 
--- src/reading.rt:530:9
 refused-file-requires : tie.Need-refused-file-requires
 refused-file-requires c κs = search needs
 
@@ -46,78 +36,62 @@ past-3 : (c : tie.After-known-told3)
 past-3 c =
     past-code _ _ (c .before .before .before .before .before .before .before .before .before .before .before .before .before .objects-of .result) (c .before .before .before .before .before .before .before .before .before .sets-of .result) (c .before .before .before .code-of .result) (past-2 (c .before .before .before .before .before .before)) (c .before .before .before .code-of .ensures) (c .before .code-ended .given .1)
 
--- src/reading.rt:530:9
 returns : tie.Need-returns
 returns c = c .refused-file .ensures ∙ sym (ap held (too-long _ _ (omega (arith, c .before .if1 .taken, c .before .before .longest-file .ensures))))
 
--- src/reading.rt:532:9
 objects-of-requires : tie.Need-objects-of-requires
 objects-of-requires c κs = search needs
 
--- src/reading.rt:535:21
 enum-known-objects-ended : tie.Need-enum-known-objects-ended
 enum-known-objects-ended c = search needs
 
--- src/reading.rt:536:29
 enum-told : tie.Need-enum-told
 enum-told c = search needs
 
--- src/reading.rt:536:29
 why-ended-requires : tie.Need-why-ended-requires
 why-ended-requires c κs = search needs
 
--- src/reading.rt:536:9
 refused-file-requires-2 : tie.Need-refused-file-requires-2
 refused-file-requires-2 c κs = search needs
 
--- src/reading.rt:536:9
 returns-2 : tie.Need-returns-2
 returns-2 c =
     let e = c .before .before .enum-told .given .1 in
     c .refused-file2 .ensures ∙ ap (λ (q : Refusal). held (Reading.refused q)) (c .before .why-ended .ensures ∙ ap whyEnded e) ∙ sym (ap held (no-objects _ _ (c .before .before .before .before .objects-of .result) (short (c .before .before .before .before)) (c .before .before .before .before .objects-of .ensures) e))
 
--- src/reading.rt:538:9
 sets-of-requires : tie.Need-sets-of-requires
 sets-of-requires c κs =
     let p = past-1 c in
     (short (c .before .before .before), omega (arith, p .held .count, p .held .few))
 
--- src/reading.rt:540:21
 enum-known-sets-ended : tie.Need-enum-known-sets-ended
 enum-known-sets-ended c = search needs
 
--- src/reading.rt:541:29
 enum-told-2 : tie.Need-enum-told-2
 enum-told-2 c = search needs
 
--- src/reading.rt:541:29
 why-ended-requires-2 : tie.Need-why-ended-requires-2
 why-ended-requires-2 c κs = search needs
 
--- src/reading.rt:541:9
 refused-file-requires-3 : tie.Need-refused-file-requires-3
 refused-file-requires-3 c κs = search needs
 
--- src/reading.rt:541:9
 returns-3 : tie.Need-returns-3
 returns-3 c =
     let e = c .before .before .enum-told2 .given .1 in
     c .refused-file3 .ensures ∙ ap (λ (q : Refusal). held (Reading.refused q)) (c .before .why-ended2 .ensures ∙ ap whyEnded e) ∙ sym (ap held (no-sets _ _ (c .before .before .before .before .before .before .before .before .objects-of .result) (c .before .before .before .before .sets-of .result) (past-1 (c .before .before .before .before .before)) (c .before .before .before .before .sets-of .ensures) e))
 
--- src/reading.rt:544:41
 array-share-prefix-kinds : tie.Need-array-share-prefix-kinds
 array-share-prefix-kinds c =
     let p = past-1 (c .before .before .before .before .before) in
     let l = ap length (p .held .kinds) ∙ length-filled 400 0 (kindsOf (p .os)) (rw length-map (p .held .few)) in
     omega (arith, p .held .count, p .held .few)
 
--- src/reading.rt:544:41
 slice-aggregate-code-of : tie.Need-slice-aggregate-code-of
 slice-aggregate-code-of c =
     let p = past-1 (c .before .before .before .before .before .before) in
     p .held .count ∙ sym (ap length (kinds-are (p .held)) ∙ length-map (p .os) (λ o. o .kind))
 
--- src/reading.rt:544:9
 code-of-requires : tie.Need-code-of-requires
 code-of-requires c κs =
     let p = past-1 (c .before .before .before .before .before .before) in
@@ -125,39 +99,34 @@ code-of-requires c κs =
     let l = ap length (kinds-are (p .held)) ∙ length-map (p .os) (λ o. o .kind) in
     (omega (arith, p .held .few), omega (arith, s .held-sets .count, s .held-sets .few))
 
--- src/reading.rt:546:21
 enum-known-code-ended : tie.Need-enum-known-code-ended
 enum-known-code-ended c = search needs
 
--- src/reading.rt:547:29
 enum-told-3 : tie.Need-enum-told-3
 enum-told-3 c = search needs
 
--- src/reading.rt:547:29
 why-ended-requires-3 : tie.Need-why-ended-requires-3
 why-ended-requires-3 c κs = search needs
 
--- src/reading.rt:547:9
 refused-file-requires-4 : tie.Need-refused-file-requires-4
 refused-file-requires-4 c κs = search needs
 
--- src/reading.rt:547:9
 returns-4 : tie.Need-returns-4
 returns-4 c =
     let e = c .before .before .enum-told3 .given .1 in
     c .refused-file4 .ensures ∙ ap (λ (q : Refusal). held (Reading.refused q)) (c .before .why-ended3 .ensures ∙ ap whyEnded e) ∙ sym (ap held (no-code _ _ (c .before .before .before .before .before .before .before .before .before .before .before .before .before .before .objects-of .result) (c .before .before .before .before .before .before .before .before .before .before .sets-of .result) (c .before .before .before .before .code-of .result) (past-2 (c .before .before .before .before .before .before .before)) (c .before .before .before .before .code-of .ensures) e))
 
--- src/reading.rt:550:9
 refused-file-requires-5 : tie.Need-refused-file-requires-5
 refused-file-requires-5 c κs = search needs
 
--- src/reading.rt:550:9
 returns-5 : tie.Need-returns-5
 returns-5 c = c .refused-file5 .ensures ∙ sym (ap held (bytes-behind _ _ (past-3 (c .before .before .before)) (c .before .if2 .taken)))
 
--- src/reading.rt:526:1
+whole-file-requires : tie.Need-whole-file-requires
+whole-file-requires c κs = search needs
+
 returns-6 : tie.Need-returns-6
-returns-6 c = all-read _ _ (past-3 (c .before .before .before .before .before .before .before)) (c .before .before .before .before .before .if2 .left)
+returns-6 c = c .whole-file .ensures ∙ all-read _ _ (past-3 (c .before .before .before)) (c .before .if2 .left)
 
 pub read-file-spec : {M : Type 1} → statement M
 read-file-spec =
@@ -188,4 +157,5 @@ read-file-spec =
     returns-4
     refused-file-requires-5
     returns-5
+    whole-file-requires
     returns-6)

@@ -5,40 +5,28 @@ use Rattle.files.specs.Inside.{Fitting}
 use borrow.Author.Needs.{needs}
 use Rattle.files.proofs.table.instr_of.Statement.{statement}
 use Rattle.files.proofs.table.instr_of.Tie as tie
-use Rattle.files.proofs.table.instr_of.Reads as reads
-use Rattle.files.proofs.table.instr_of.Lts as lts
-use Rattle.files.proofs.table.low_byte.Reads as low-byte-reads
-use Rattle.files.proofs.table.low_half.Reads as low-half-reads
 
--- src/table.rt:217:9
 low-byte-requires : tie.Need-low-byte-requires
 low-byte-requires c κs = search needs
 
--- src/table.rt:218:9
 low-byte-requires-2 : tie.Need-low-byte-requires-2
 low-byte-requires-2 c κs = search needs
 
--- src/table.rt:219:9
 low-byte-requires-3 : tie.Need-low-byte-requires-3
 low-byte-requires-3 c κs = search needs
 
--- src/table.rt:220:9
 low-half-requires : tie.Need-low-half-requires
 low-half-requires c κs = search needs
 
--- src/table.rt:221:9
 low-half-requires-2 : tie.Need-low-half-requires-2
 low-half-requires-2 c κs = search needs
 
--- src/table.rt:222:9
 low-half-requires-3 : tie.Need-low-half-requires-3
 low-half-requires-3 c κs = search needs
 
--- src/table.rt:213:1
 returns : tie.Need-returns
 returns c = search needs
 
--- src/table.rt:213:1
 returns-2 : tie.Need-returns-2
 returns-2 c =
     let s = c .before .before .before .before .before .before in
@@ -46,7 +34,6 @@ returns-2 c =
     let x8 = s .low-byte .ensures (omega (arith, f)) in
     rw (c .match .keys2) (cc)
 
--- src/table.rt:213:1
 returns-3 : tie.Need-returns-3
 returns-3 c =
     let s = c .before .before .before .before .before .before in
@@ -55,7 +42,6 @@ returns-3 c =
     let y16 = c .before .before .low-half2 .ensures (omega (arith, f)) in
     rw (c .match .keys3) (cc)
 
--- src/table.rt:213:1
 returns-4 : tie.Need-returns-4
 returns-4 c =
     let s = c .before .before .before .before .before .before in
@@ -65,7 +51,6 @@ returns-4 c =
     let z8 = c .before .before .before .before .low-byte3 .ensures (omega (arith, f)) in
     rw (c .match .keys4) (cc)
 
--- src/table.rt:213:1
 returns-5 : tie.Need-returns-5
 returns-5 c =
     let s = c .before .before .before .before .before .before in
@@ -75,7 +60,6 @@ returns-5 c =
     let z8 = c .before .before .before .before .low-byte3 .ensures (omega (arith, f)) in
     rw (c .match .keys5) (cc)
 
--- src/table.rt:213:1
 returns-6 : tie.Need-returns-6
 returns-6 c =
     let s = c .before .before .before .before .before .before in
@@ -85,7 +69,6 @@ returns-6 c =
     let z8 = c .before .before .before .before .low-byte3 .ensures (omega (arith, f)) in
     rw (c .match .keys6) (cc)
 
--- src/table.rt:213:1
 returns-7 : tie.Need-returns-7
 returns-7 c =
     let s = c .before .before .before .before .before .before in
@@ -94,7 +77,6 @@ returns-7 c =
     let y8 = c .before .before .before .before .before .low-byte2 .ensures (omega (arith, f)) in
     rw (c .match .keys7) (cc)
 
--- src/table.rt:213:1
 returns-8 : tie.Need-returns-8
 returns-8 c =
     let s = c .before .before .before .before .before .before in
@@ -103,7 +85,6 @@ returns-8 c =
     let y8 = c .before .before .before .before .before .low-byte2 .ensures (omega (arith, f)) in
     rw (c .match .keys8) (cc)
 
--- src/table.rt:213:1
 returns-9 : tie.Need-returns-9
 returns-9 c =
     let s = c .before .before .before .before .before .before in
@@ -113,7 +94,6 @@ returns-9 c =
     let z8 = c .before .before .before .before .low-byte3 .ensures (omega (arith, f)) in
     rw (c .match .keys9) (cc)
 
--- src/table.rt:213:1
 returns-10 : tie.Need-returns-10
 returns-10 c =
     let s = c .before .before .before .before .before .before in
@@ -123,7 +103,6 @@ returns-10 c =
     let z8 = c .before .before .before .before .low-byte3 .ensures (omega (arith, f)) in
     rw (c .match .keys10) (cc)
 
--- src/table.rt:213:1
 returns-11 : tie.Need-returns-11
 returns-11 c =
     let s = c .before .before .before .before .before .before in
@@ -133,7 +112,6 @@ returns-11 c =
     let z16 = c .before .low-half3 .ensures (omega (arith, f)) in
     rw (c .match .keys11) (cc)
 
--- src/table.rt:213:1
 returns-12 : tie.Need-returns-12
 returns-12 c =
     let s = c .before .before .before .before .before .before in
@@ -143,7 +121,6 @@ returns-12 c =
     let z16 = c .before .low-half3 .ensures (omega (arith, f)) in
     rw (c .match .keys12) (cc)
 
--- src/table.rt:213:1
 returns-13 : tie.Need-returns-13
 returns-13 c =
     let s = c .before .before .before .before .before .before in
@@ -151,7 +128,6 @@ returns-13 c =
     let x16 = c .before .before .before .low-half .ensures (omega (arith, f)) in
     rw (c .match .keys13) (cc)
 
--- src/table.rt:213:1
 returns-14 : tie.Need-returns-14
 returns-14 c =
     let s = c .before .before .before .before .before .before in
@@ -160,7 +136,6 @@ returns-14 c =
     let y16 = c .before .before .low-half2 .ensures (omega (arith, f)) in
     rw (c .match .keys14) (cc)
 
--- src/table.rt:213:1
 returns-15 : tie.Need-returns-15
 returns-15 c =
     let s = c .before .before .before .before .before .before in
@@ -170,7 +145,6 @@ returns-15 c =
     let z8 = c .before .before .before .before .low-byte3 .ensures (omega (arith, f)) in
     rw (c .match .keys15) (cc)
 
--- src/table.rt:213:1
 returns-16 : tie.Need-returns-16
 returns-16 c =
     let s = c .before .before .before .before .before .before in
@@ -178,7 +152,6 @@ returns-16 c =
     let x8 = s .low-byte .ensures (omega (arith, f)) in
     rw (c .match .keys16) (cc)
 
--- src/table.rt:213:1
 returns-17 : tie.Need-returns-17
 returns-17 c =
     let s = c .before .before .before .before .before .before in
@@ -186,7 +159,6 @@ returns-17 c =
     let x8 = s .low-byte .ensures (omega (arith, f)) in
     rw (c .match .keys17) (cc)
 
--- src/table.rt:213:1
 returns-18 : tie.Need-returns-18
 returns-18 c =
     let s = c .before .before .before .before .before .before in
@@ -194,7 +166,6 @@ returns-18 c =
     let x8 = s .low-byte .ensures (omega (arith, f)) in
     rw (c .match .keys18) (cc)
 
--- src/table.rt:213:1
 returns-19 : tie.Need-returns-19
 returns-19 c =
     let s = c .before .before .before .before .before .before in
@@ -203,7 +174,6 @@ returns-19 c =
     let y8 = c .before .before .before .before .before .low-byte2 .ensures (omega (arith, f)) in
     rw (c .match .keys19) (cc)
 
--- src/table.rt:213:1
 returns-20 : tie.Need-returns-20
 returns-20 c =
     let s = c .before .before .before .before .before .before in
@@ -212,7 +182,6 @@ returns-20 c =
     let y8 = c .before .before .before .before .before .low-byte2 .ensures (omega (arith, f)) in
     rw (c .match .keys20) (cc)
 
--- src/table.rt:213:1
 returns-21 : tie.Need-returns-21
 returns-21 c =
     let s = c .before .before .before .before .before .before in
@@ -255,7 +224,6 @@ only-21 c =
     let a20 = up 20 op a19 (r .1) in
     omega (arith, s .pre .known)
 
--- src/table.rt:213:1
 returns-22 : tie.Need-returns-22
 returns-22 c =
     let s = c .before .before .before .before .before .before in

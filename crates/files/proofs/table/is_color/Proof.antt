@@ -3,19 +3,13 @@ use Rattle.files.specs.Program.{isColor}
 use borrow.Author.Needs.{needs}
 use Rattle.files.proofs.table.is_color.Statement.{statement}
 use Rattle.files.proofs.table.is_color.Tie as tie
-use Rattle.files.proofs.table.is_color.Reads as reads
-use Rattle.files.proofs.table.is_color.Lts as lts
-use Rattle.files.proofs.table.is_within.Reads as is-within-reads
 
--- src/table.rt:163:15
 is-within-requires : tie.Need-is-within-requires
 is-within-requires c κs = search needs
 
--- src/table.rt:160:1
 returns : tie.Need-returns
 returns c = simp (eq-eqb _ _ (c .if1 .taken), isColor)
 
--- src/table.rt:160:1
 returns-2 : tie.Need-returns-2
 returns-2 c = simp (ne-eqb _ _ (c .before .if1 .left), isColor) (c .is-within .ensures)
 

@@ -3,18 +3,13 @@ use Rattle.files.specs.Program.{isKind}
 use borrow.Author.Needs.{needs}
 use Rattle.files.proofs.table.is_kind.Statement.{statement}
 use Rattle.files.proofs.table.is_kind.Tie as tie
-use Rattle.files.proofs.table.is_kind.Reads as reads
-use Rattle.files.proofs.table.is_kind.Lts as lts
 
--- src/table.rt:171:25
 shared-slice-read-result : tie.Need-shared-slice-read-result
 shared-slice-read-result c = search needs
 
--- src/table.rt:167:1
 returns : tie.Need-returns
 returns c = simp (lt-ltb _ _ (c .before .if1 .taken), isKind)
 
--- src/table.rt:167:1
 returns-2 : tie.Need-returns-2
 returns-2 c = simp (le-ltb _ _ (c .if1 .left), isKind)
 

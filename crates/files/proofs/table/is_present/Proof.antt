@@ -2,78 +2,58 @@ use Rattle.files.specs.Program.{present}
 use borrow.Author.Needs.{needs}
 use Rattle.files.proofs.table.is_present.Statement.{statement}
 use Rattle.files.proofs.table.is_present.Tie as tie
-use Rattle.files.proofs.table.is_present.Reads as reads
-use Rattle.files.proofs.table.is_present.Lts as lts
 
--- src/table.rt:147:26
 enum-told : tie.Need-enum-told
 enum-told c = search needs
 
--- src/table.rt:148:31
 enum-told-2 : tie.Need-enum-told-2
 enum-told-2 c = search needs
 
--- src/table.rt:149:28
 enum-told-3 : tie.Need-enum-told-3
 enum-told-3 c = search needs
 
--- src/table.rt:150:28
 enum-told-4 : tie.Need-enum-told-4
 enum-told-4 c = search needs
 
--- src/table.rt:151:26
 enum-told-5 : tie.Need-enum-told-5
 enum-told-5 c = search needs
 
--- src/table.rt:152:25
 enum-told-6 : tie.Need-enum-told-6
 enum-told-6 c = search needs
 
--- src/table.rt:153:28
 enum-told-7 : tie.Need-enum-told-7
 enum-told-7 c = search needs
 
--- src/table.rt:154:28
 enum-told-8 : tie.Need-enum-told-8
 enum-told-8 c = search needs
 
--- src/table.rt:155:27
 enum-told-9 : tie.Need-enum-told-9
 enum-told-9 c = search needs
 
--- src/table.rt:143:1
 returns : tie.Need-returns
 returns c = search needs
 
--- src/table.rt:143:1
 returns-2 : tie.Need-returns-2
 returns-2 c = search needs
 
--- src/table.rt:143:1
 returns-3 : tie.Need-returns-3
 returns-3 c = search needs
 
--- src/table.rt:143:1
 returns-4 : tie.Need-returns-4
 returns-4 c = search needs
 
--- src/table.rt:143:1
 returns-5 : tie.Need-returns-5
 returns-5 c = search needs
 
--- src/table.rt:143:1
 returns-6 : tie.Need-returns-6
 returns-6 c = rw (c .enum-told6 .given .1, present)
 
--- src/table.rt:143:1
 returns-7 : tie.Need-returns-7
 returns-7 c = search needs
 
--- src/table.rt:143:1
 returns-8 : tie.Need-returns-8
 returns-8 c = search needs
 
--- src/table.rt:143:1
 returns-9 : tie.Need-returns-9
 returns-9 c = search needs
 

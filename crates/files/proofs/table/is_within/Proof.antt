@@ -2,14 +2,10 @@ use borrow.Author.Tests.{le-leb, lt-leb}
 use Rattle.files.specs.Program.{within}
 use Rattle.files.proofs.table.is_within.Statement.{statement}
 use Rattle.files.proofs.table.is_within.Tie as tie
-use Rattle.files.proofs.table.is_within.Reads as reads
-use Rattle.files.proofs.table.is_within.Lts as lts
 
--- src/table.rt:153:1
 returns : tie.Need-returns
 returns c = simp (le-leb _ _ (c .if1 .taken), within)
 
--- src/table.rt:153:1
 returns-2 : tie.Need-returns-2
 returns-2 c = simp (lt-leb _ _ (c .if1 .left), within)
 

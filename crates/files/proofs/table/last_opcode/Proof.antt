@@ -2,14 +2,10 @@ use borrow.Author.Tests.{eq-eqb, ne-eqb}
 use Rattle.files.specs.Program.{lastOpcode}
 use Rattle.files.proofs.table.last_opcode.Statement.{statement}
 use Rattle.files.proofs.table.last_opcode.Tie as tie
-use Rattle.files.proofs.table.last_opcode.Reads as reads
-use Rattle.files.proofs.table.last_opcode.Lts as lts
 
--- src/table.rt:136:1
 returns : tie.Need-returns
 returns c = simp (eq-eqb _ _ (c .if1 .taken), lastOpcode)
 
--- src/table.rt:136:1
 returns-2 : tie.Need-returns-2
 returns-2 c = simp (ne-eqb _ _ (c .if1 .left), lastOpcode)
 

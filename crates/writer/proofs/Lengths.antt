@@ -1,0 +1,221 @@
+-- Measuring a program: what is good has a length, part by part. Assumes nothing.
+use mathlib.Core.Path.{_≡_, refl, ap, _∙_}
+use mathlib.Core.List.{List, [], _∷_, _++_, map}
+use mathlib.Core.Bool.{Bool, true, false}
+use Prim.Native.Nat.{ℕ, zero, suc, _+_, _*_, _-_, _<_, _≤_}
+use native.Mathlib.Nat.{sub-zero, mul-suc}
+use native.Mathlib.Omega.{arith}
+use lib.ListN.{length, take, drop, getD, length-append}
+use lib.Seq.{drop-cons}
+use lib.Dec.{eqb, leb}
+use borrow.Author.Tests.{eq-eqb, ne-eqb}
+use Rattle.numbers.specs.Number.{spell, width}
+use Rattle.numbers.proofs.Laws.{width-most}
+use Rattle.writer.specs.declared.measuring.Length.{Length}
+use Rattle.files.specs.declared.Object.{Object}
+use Rattle.files.specs.declared.Instr.{Instr}
+use Rattle.files.specs.declared.table.Parts.{Parts}
+use Rattle.files.specs.Table.{partsOf, rowOf}
+use Rattle.files.specs.Program.{Scope, present, within, isColor, lastOpcode}
+use Rattle.files.specs.Writing.{spellIf, spellAll, spellObject, spellInstr, spellParts, every, both, goodObject, goodOperand, goodParts}
+use Rattle.files.specs.Held.{tabulate}
+use Rattle.writer.specs.Inside.{measured}
+use Rattle.files.proofs.SpelledObjects.{both-are}
+
+-- ---- one answer
+
+pub measure-good : {b : Bool} {n k : ℕ} → b ≡ true → k ≡ n → Length.Good k ≡ measured b n
+measure-good p e = simp (p, measured) (ap Length.Good e)
+
+pub measure-bad : {b : Bool} → b ≡ false → (n : ℕ) → Length.Bad ≡ measured b n
+measure-bad p n = simp (p, measured)
+
+pub record Fits (b : Bool) (n k : ℕ) : Type 0 where
+  pub good : b ≡ true
+  pub long : k ≡ n
+
+pub was-good : (b : Bool) (n : ℕ) {r : Length} {k : ℕ} → r ≡ measured b n → r ≡ Length.Good k → Fits b n k
+was-good true n {r} {k} p e = let same : k ≡ n = cc in record { good = refl; long = same }
+was-good false n p e = let w : _≡_ {A = ℕ} 0 1 = cc in absurd (omega arith)
+
+pub was-bad : (b : Bool) (n : ℕ) {r : Length} → r ≡ measured b n → r ≡ Length.Bad → b ≡ false
+was-bad true n p e = let w : _≡_ {A = ℕ} 0 1 = cc in absurd (omega arith)
+was-bad false n p e = refl
+
+pub both-no : {a : Bool} (b : Bool) → a ≡ false → both a b ≡ false
+both-no b p = simp (p, both)
+
+pub both-then : (a : Bool) {b : Bool} → b ≡ false → both a b ≡ false
+both-then true q = q
+both-then false q = refl
+
+-- ---- an object of version 2, by its kind
+
+module _ (kind size color : ℕ) where
+  abbrev pub this : Object
+  this = record { kind = kind; size = size; color = color }
+
+  -- the kind with its size
+  abbrev sized : Bool
+  sized = elim (eqb kind 0) [ true ↦ within 1 4096 size | false ↦ both (eqb kind 1) (eqb size 0) ]
+
+  pub bad-color : isColor color ≡ false → goodObject 2 this ≡ false
+  bad-color p = both-then sized p
+
+  pub bad-size : kind ≡ 0 → within 1 4096 size ≡ false → goodObject 2 this ≡ false
+  bad-size z p = both-no {a = sized} (isColor color) (simp (eq-eqb kind 0 z, sized) p)
+
+  pub bad-kind : (kind ≡ 0 → ⊥) → (kind ≡ 1 → ⊥) → goodObject 2 this ≡ false
+  bad-kind z o = both-no {a = sized} (isColor color) (simp (ne-eqb kind 0 z, sized) (both-no (eqb size 0) (ne-eqb kind 1 o)))
+
+  pub bad-site : (kind ≡ 0 → ⊥) → (size ≡ 0 → ⊥) → goodObject 2 this ≡ false
+  bad-site z s = both-no {a = sized} (isColor color) (simp (ne-eqb kind 0 z, sized) (both-then (eqb kind 1) (ne-eqb size 0 s)))
+
+  pub a-global : kind ≡ 0 → within 1 4096 size ≡ true → isColor color ≡ true → goodObject 2 this ≡ true
+  a-global z p q = both-are {a = sized} {b = isColor color} (simp (eq-eqb kind 0 z, sized) p) q
+
+  pub a-site : (kind ≡ 0 → ⊥) → kind ≡ 1 → size ≡ 0 → isColor color ≡ true → goodObject 2 this ≡ true
+  a-site z o s q = both-are {a = sized} {b = isColor color} (simp (ne-eqb kind 0 z, sized) (both-are (eq-eqb kind 1 o) (eq-eqb size 0 s))) q
+
+  pub global-length : kind ≡ 0 → length (spellObject 2 this) ≡ width kind + width color + width size
+  global-length z =
+      length-append (spell kind) (spellIf (eqb kind 0) size ++ spell color)
+      ∙ ap (λ (n : ℕ). width kind + n) (length-append (spellIf (eqb kind 0) size) (spell color))
+      ∙ (let e : length (spellIf (eqb kind 0) size) ≡ width size = ap (λ (b : Bool). length (spellIf b size)) (eq-eqb kind 0 z) in omega arith)
+
+  pub site-length : (kind ≡ 0 → ⊥) → length (spellObject 2 this) ≡ width kind + width color
+  site-length z =
+      length-append (spell kind) (spellIf (eqb kind 0) size ++ spell color)
+      ∙ ap (λ (n : ℕ). width kind + n) (length-append (spellIf (eqb kind 0) size) (spell color))
+      ∙ (let e : length (spellIf (eqb kind 0) size) ≡ 0 = ap (λ (b : Bool). length (spellIf b size)) (ne-eqb kind 0 z) in omega arith)
+
+-- ---- an instruction, by its parts
+
+pub parts-length : (version : ℕ) (q : Parts)
+    → length (spellParts version q)
+    ≡ width (q .op) + length (spellIf (present version (rowOf (q .op) .first)) (q .x))
+    + length (spellIf (present version (rowOf (q .op) .second)) (q .y)) + length (spellIf (present version (rowOf (q .op) .third)) (q .z))
+parts-length version q =
+    let a = spellIf (present version (rowOf (q .op) .first)) (q .x) in
+    let b = spellIf (present version (rowOf (q .op) .second)) (q .y) in
+    let c = spellIf (present version (rowOf (q .op) .third)) (q .z) in
+    length-append (spell (q .op)) (a ++ (b ++ c))
+    ∙ ap (λ (n : ℕ). width (q .op) + n) (length-append a (b ++ c) ∙ ap (λ (n : ℕ). length a + n) (length-append b c)) ∙ omega arith
+
+module _ (scope : Scope) (q : Parts) where
+  abbrev last : Bool
+  last = leb (q .op) (lastOpcode (scope .version))
+
+  abbrev one : Bool
+  one = goodOperand scope (rowOf (q .op) .first) (q .x)
+
+  abbrev two : Bool
+  two = goodOperand scope (rowOf (q .op) .second) (q .y)
+
+  abbrev three : Bool
+  three = goodOperand scope (rowOf (q .op) .third) (q .z)
+
+  pub bad-opcode : leb (q .op) (lastOpcode (scope .version)) ≡ false → goodParts scope q ≡ false
+  bad-opcode p = both-no {a = last} (both one (both two three)) p
+
+  pub bad-first : goodOperand scope (rowOf (q .op) .first) (q .x) ≡ false → goodParts scope q ≡ false
+  bad-first p = both-then last (both-no {a = one} (both two three) p)
+
+  pub bad-second : goodOperand scope (rowOf (q .op) .second) (q .y) ≡ false → goodParts scope q ≡ false
+  bad-second p = both-then last (both-then one (both-no {a = two} three p))
+
+  pub bad-third : goodOperand scope (rowOf (q .op) .third) (q .z) ≡ false → goodParts scope q ≡ false
+  bad-third p = both-then last (both-then one (both-then two p))
+
+-- ---- lengths stay small
+
+pub field-length : (b : Bool) (n : ℕ) → length (spellIf b n) ≤ 5
+field-length true n = width-most n
+field-length false n = omega arith
+
+pub object-length : (version : ℕ) (o : Object) → length (spellObject version o) ≤ 15
+object-length version o =
+    let a = width-most (o .kind) in
+    let b = field-length (lib.Dec.eqb (o .kind) 0) (o .size) in
+    let c = field-length (lib.Dec.eqb version 2) (o .color) in
+    rw (length-append, length-append) (omega arith)
+
+pub instr-length : (version : ℕ) (i : Instr) → length (spellInstr version i) ≤ 20
+instr-length version i =
+    let q = partsOf i in
+    let a = width-most (q .op) in
+    let b = field-length (present version (rowOf (q .op) .first)) (q .x) in
+    let c = field-length (present version (rowOf (q .op) .second)) (q .y) in
+    let d = field-length (present version (rowOf (q .op) .third)) (q .z) in
+    rw (length-append, length-append, length-append) (omega arith)
+
+-- ---- a loop that adds up
+
+-- all of a list is as good as the rest, and as long as what is added up with the rest
+pub record Adding {A : Type 0} (good : A → Bool) (spell : A → List ℕ) (all rest : List A) (total : ℕ) : Type 0 where
+  pub tests : every good all ≡ every good rest
+  pub sum : length (spellAll spell all) ≡ total + length (spellAll spell rest)
+
+module _ {A : Type 0} (good : A → Bool) (spell : A → List ℕ) where
+  pub add-none : (all : List A) → Adding good spell all all 0
+  add-none all = record { tests = refl; sum = omega arith }
+
+  module _ {all : List A} {x : A} {rest : List A} {total : ℕ} (a : Adding good spell all (x ∷ rest) total) where
+    every-more : good x ≡ true → every good (x ∷ rest) ≡ every good rest
+    unfolding every
+    every-more p = rw (p, every)
+
+    every-stops : good x ≡ false → every good (x ∷ rest) ≡ false
+    unfolding every
+    every-stops p = rw (p, every)
+
+    spell-more : length (spellAll spell (x ∷ rest)) ≡ length (spell x) + length (spellAll spell rest)
+    unfolding spellAll
+    spell-more = length-append (spell x) (spellAll spell rest)
+
+    pub add-more : {k : ℕ} → good x ≡ true → k ≡ length (spell x) → Adding good spell all rest (total + k)
+    add-more {k} p e =
+        record { tests = a .tests ∙ every-more p; sum = let s = a .sum in let m = spell-more in omega (arith, e) }
+
+    pub add-stops : good x ≡ false → every good all ≡ false
+    add-stops p = a .tests ∙ every-stops p
+
+  pub add-all : {all : List A} {total : ℕ} → Adding good spell all [] total → Fits (every good all) (length (spellAll spell all)) total
+  unfolding every spellAll
+  add-all a = record { good = a .tests; long = let s = a .sum in omega arith }
+
+-- ---- what a loop goes through
+
+module _ {A : Type 0} (f : ℕ → A) where
+  pub tabulate-more : (i count : ℕ) → i < count → tabulate f i (count - i) ≡ f i ∷ tabulate f (i + 1) (count - (i + 1))
+  unfolding tabulate
+  tabulate-more i count h = let one : count - i ≡ suc (count - (i + 1)) = omega arith in rw one
+
+  pub tabulate-none : (i count : ℕ) → count ≤ i → tabulate f i (count - i) ≡ []
+  unfolding tabulate
+  tabulate-none i count h = let none : count - i ≡ 0 = omega arith in rw none
+
+  pub tabulate-all : (count : ℕ) → tabulate f 0 (count - 0) ≡ tabulate f 0 count
+  tabulate-all count = ap (tabulate f 0) (sub-zero count)
+
+pub map-take : {A B : Type 0} (g : A → B) (l : List A) (d : A) (n i : ℕ) → i + n ≤ length l
+    → map g (take n (drop i l)) ≡ tabulate (λ k. g (getD l k d)) i n
+unfolding tabulate
+map-take g l d zero i h = refl
+map-take g l d (suc n) i h =
+    let next : suc i ≡ i + 1 = omega arith in
+    ap (λ (m : List _). map g (take (suc n) m)) (drop-cons l i d (omega arith))
+    ∙ ap (λ (t : List _). g (getD l i d) ∷ t)
+    (ap (λ (k : ℕ). map g (take n (drop k l))) next ∙ map-take g l d n (i + 1) (omega arith))
+
+-- many things of a few bytes each
+pub many-small : {A : Type 0} (spell : A → List ℕ) (most : ℕ) → ((x : A) → length (spell x) ≤ most) → (xs : List A)
+    → length (spellAll spell xs) ≤ most * length xs
+unfolding spellAll
+many-small spell most h [] = omega arith
+many-small spell most h (x ∷ xs) =
+    let a = h x in
+    let b = many-small spell most h xs in
+    let c = length-append (spell x) (spellAll spell xs) in
+    let d : most * suc (length xs) ≡ most * length xs + most = mul-suc most (length xs) in
+    omega arith
