@@ -16,7 +16,8 @@ use borrow.Author.Tests.{ltb-true, ltb-false}
 use Rattle.files.specs.declared.Instr.{Instr}
 use Rattle.files.specs.Program.{Program, isKind, kindsOf}
 use Rattle.files.specs.View.{Aim, inGlobal, atTemp, Act, View, act, jump, jumpIf, store, check, view}
-use Rattle.files.specs.Writing.{both, every, goodInstr, scopeOf}
+use Rattle.files.specs.Writing.{every, goodInstr, scopeOf}
+use Rattle.files.proofs.SpelledObjects.{both-left, both-right}
 use Rattle.heap.specs.Heap.{Made, Freed, Alloc, Free, alloc}
 use Rattle.machine.specs.State.{Rule, Given, State, temp}
 use Rattle.machine.specs.Step.{Next, stop, next, conclude, allocating, perform, step, becomes}
@@ -117,17 +118,6 @@ module _ {S : Type 0} (code : List Instr) (start start′ : ℕ → ℕ) (allows
 
 -- ---- an accepted file names objects that there are
 
-both-left : (a b : Bool) → both a b ≡ true → a ≡ true
-both-left true b e = refl
-both-left false b e = e
-
-both-right : (a b : Bool) → both a b ≡ true → b ≡ true
-both-right true b e = e
-both-right false b e = absurd (never e)
-  where
-    never : _≡_ {A = Bool} false true → ⊥
-    never z = let x : _≡_ {A = ℕ} 0 1 = cc in omega arith
-
 kind-inside : (kinds : List ℕ) (kind g : ℕ) → isKind kinds kind g ≡ true → g < length kinds
 kind-inside kinds kind g e = go (ltb g (length kinds)) refl e
   where
@@ -138,7 +128,7 @@ kind-inside kinds kind g e = go (ltb g (length kinds)) refl e
         never : _≡_ {A = Bool} false true → ⊥
         never z = let x : _≡_ {A = ℕ} 0 1 = cc in omega arith
 
-every-at : {A : Type 0} (test : A → Bool) (xs : List A) (i : ℕ) (d : A) → every test xs ≡ true → i < length xs → test (getD xs i d) ≡ true
+pub every-at : {A : Type 0} (test : A → Bool) (xs : List A) (i : ℕ) (d : A) → every test xs ≡ true → i < length xs → test (getD xs i d) ≡ true
 unfolding every
 every-at {A = A} test [] i d e h = absurd (not-suc-le-zero h)
 every-at {A = A} test (x ∷ xs) i d e h = go (test x) refl e i h (every-at test xs)

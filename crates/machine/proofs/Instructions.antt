@@ -11,8 +11,9 @@ use Rattle.heap.specs.Lent.{within, loaded, stored, allocated}
 use Rattle.machine.specs.declared.Reason.{Reason}
 use Rattle.machine.specs.declared.Turn.{Turn}
 use Rattle.machine.specs.State.{temp}
-use Rattle.machine.specs.Turn.{held, Turned, turned, turnOf, onward, toPlace, jumpsTo, inputTurn, inputTemps, outputTurn, loadTurn, loadTemps, storeTurn, checkTurn, allocTurn, allocTemps, releaseTurn, freeAt}
+use Rattle.machine.specs.Turn.{held, Turned, turned, turnOf, onward, toPlace, inputTurn, inputTemps, outputTurn, loadTurn, loadTemps, storeTurn, checkTurn, allocTurn, allocTemps, releaseTurn, freeAt}
 use Rattle.machine.proofs.Laws.{asNumber}
+use Rattle.machine.proofs.Parts.{jumpsTo}
 use Rattle.machine.proofs.Landing.{Here, at-instr, calculates, leads, loads-land, stores-land, checks-land, allocs-land, frees-land, inputs-land, outputs-land}
 
 module _ (w : Here) where

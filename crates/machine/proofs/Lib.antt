@@ -10,6 +10,7 @@
 --   Places           the place of a stop
 --   Starting         the table that is painted object by object is the first table
 --   Agreeing         the rule over what is held asks the table's rule nothing that it answers otherwise
+--   Temporaries      each temporary that an accepted file's code names is one of the 16
 --   Loading          from what the reader holds to the run of the program; the refusals
 --   Limits           steps are at most the limit; the instruction that stops changes nothing
 -- Of the definitions alone:
@@ -27,5 +28,6 @@ pub mod Going
 pub mod Places
 pub mod Starting
 pub mod Agreeing
+pub mod Temporaries
 pub mod Loading
 pub mod Limits

@@ -9,6 +9,7 @@ use mathlib.Core.Path.{_≡_, refl, sym, _∙_, ap, subst}
 use mathlib.Core.Bool.{Bool, true, false}
 use mathlib.Core.List.{List, [], _∷_, _++_, map}
 use native.Mathlib.Omega.{arith}
+use native.Mathlib.Nat.{not-suc-le-zero}
 use lib.ListN.{length, getD, take, replicate, length-map, List·getD-eq-default}
 use lib.Seq.{take-at}
 use lib.Dec.{ltb, leb}
@@ -19,6 +20,7 @@ use Rattle.files.specs.declared.Outcome.{Outcome}
 use Rattle.files.specs.declared.Loaded.{Loaded}
 use Rattle.files.specs.Program.{Program, within}
 use Rattle.files.specs.Reading.{Reading, whole, refusal, readFile}
+use Rattle.files.specs.Writing.{scopeOf}
 use Rattle.files.specs.Held.{filled, tabulate, line, heldAs, held}
 use Rattle.files.proofs.RoundTrip.{Good, good-of, one-spelling}
 use Rattle.layout.specs.declared.Layout.{Layout}
@@ -34,10 +36,11 @@ use Rattle.machine.specs.State.{Given, State, blankMemory, startState}
 use Rattle.machine.specs.Runs.{runFrom, runs}
 use Rattle.machine.specs.Colors.{tableAllows, colorOfObject, tableRule, firstTable}
 use Rattle.machine.specs.Running.{Lent, Answer, refuse, leaves, runProgram, runReading, runFile}
-use Rattle.machine.specs.Turn.{heldRule, Low, codeOf, lentOf, answered, runHeld}
+use Rattle.machine.specs.Turn.{heldRule, Low, AllNarrow, codeOf, lentOf, answered, runHeld}
 use Rattle.machine.specs.Start.{piecesHeld, laidTable, Runnable, runLoaded}
 use Rattle.machine.proofs.Starting.{field-held, getD-padded, start-is, laid-first}
 use Rattle.machine.proofs.Agreeing.{same-runs, agrees}
+use Rattle.machine.proofs.Temporaries.{narrow-code}
 
 -- ---- starts are low
 
@@ -212,7 +215,13 @@ module _ (file input : List ℕ) (limit : ℕ) (lent : Lent) where
           go : (r : Reading) → readFile 2 file ≡ r → Runnable (held r) lent
           go (whole p) e =
               let g : Good 2 p = good p e in
-              record { objects = g .objects-most; lines = most (length (p .code)) (g .code-most); memory = memory; table = table }
+              record {
+                objects = g .objects-most;
+                lines = most (length (p .code)) (g .code-most);
+                temps = subst AllNarrow (sym (code-held (p .code))) (narrow-code (scopeOf 2 p) (p .code) (g .code));
+                memory = memory;
+                table = table;
+              }
             where
               most : (n : ℕ) → within 1 2000 n ≡ true → n ≤ 2000
               most n w = between (leb 1 n) w
@@ -223,7 +232,7 @@ module _ (file input : List ℕ) (limit : ℕ) (lent : Lent) where
                     where
                       never : _≡_ {A = Bool} false true → ⊥
                       never z = let x : _≡_ {A = ℕ} 0 1 = cc in omega arith
-          go (Reading.refused q) e = record { objects = omega arith; lines = omega arith; memory = memory; table = table }
+          go (Reading.refused q) e = record { objects = omega arith; lines = omega arith; temps = λ at h. absurd (not-suc-le-zero h); memory = memory; table = table }
 
       pub runs-whole : {l : Loaded} {x : Answer} → l ≡ held (readFile 2 file) → l .outcome ≡ Outcome.Whole → x ≡ runLoaded l input limit lent
           → x ≡ runFile file input limit lent

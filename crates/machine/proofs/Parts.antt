@@ -16,7 +16,11 @@ use Rattle.heap.specs.Lent.{within, loaded, stored, allocated, released}
 use Rattle.machine.specs.declared.Reason.{Reason}
 use Rattle.machine.specs.declared.Progress.{Progress}
 use Rattle.machine.specs.declared.Turn.{Turn}
-use Rattle.machine.specs.Turn.{onward, toPlace, ahead, jumpsTo, inputTurn, inputTemps, outputTurn, loadTurn, loadTemps, storeTurn, checkTurn, allocTurn, allocTemps, releaseTurn, freeAt}
+use Rattle.machine.specs.Turn.{onward, toPlace, ahead, passed, inputTurn, inputTemps, outputTurn, loadTurn, loadTemps, storeTurn, checkTurn, allocTurn, allocTemps, releaseTurn, freeAt}
+
+-- where JUMPIF leads
+abbrev pub jumpsTo : (value : ℕ) → Progress → (target : ℕ) → ℕ
+jumpsTo value p target = elim (eqb value 0) [ true ↦ p .at + 1 | false ↦ target ]
 
 module _ (p : Progress) where
   -- ---- JUMPIF
@@ -69,10 +73,13 @@ module _ (p : Progress) where
   pub stores-not : {inside : Bool} → inside ≡ false → Turn.Stop Reason.StoreOutside ≡ storeTurn p inside
   stores-not is = ap (storeTurn p) (sym is)
 
-  pub allows : {allowed : Bool} {turn : Turn} → allowed ≡ true → turn ≡ Turn.On (ahead p 0) → turn ≡ checkTurn p allowed
-  allows is e =
+  pub no-cost : {turn : Turn} → turn ≡ Turn.On (ahead p 0) → turn ≡ Turn.On (passed p)
+  no-cost e =
       let none : p .steps + 0 ≡ p .steps = omega arith in
-      e ∙ ap (λ n. Turn.On (record { at = p .at + 1; steps = n; out = p .out; taken = p .taken })) none ∙ ap (checkTurn p) (sym is)
+      e ∙ ap (λ n. Turn.On (record { at = p .at + 1; steps = n; out = p .out; taken = p .taken })) none
+
+  pub allows : {allowed : Bool} {turn : Turn} → allowed ≡ true → turn ≡ Turn.On (passed p) → turn ≡ checkTurn p allowed
+  allows is e = e ∙ ap (checkTurn p) (sym is)
 
   pub forbids : {allowed : Bool} → allowed ≡ false → Turn.Stop Reason.Forbidden ≡ checkTurn p allowed
   forbids is = ap (checkTurn p) (sym is)

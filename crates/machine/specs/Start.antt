@@ -13,7 +13,7 @@ use Rattle.heap.specs.Memory.{memorySize, tableSize}
 use Rattle.heap.specs.Heap.{heapStart, endSlot}
 use Rattle.heap.specs.Lent.{painted, started}
 use Rattle.machine.specs.Running.{Lent, Answer, refuse}
-use Rattle.machine.specs.Turn.{codeOf, lentOf, runHeld}
+use Rattle.machine.specs.Turn.{AllNarrow, codeOf, lentOf, runHeld}
 
 -- the slots of a global; a heap site has none at the start
 abbrev pub paintOne : (table : List ℕ) (kind start size color : ℕ) → List ℕ
@@ -47,9 +47,10 @@ runLoaded l input limit lent =
       | false ↦ refuse lent (refusal 9 0)
     ]
 
--- what a run of it asks: counts within the arrays, and exact lengths
+-- what a run of it asks: counts within the arrays, temporaries that there are, and exact lengths
 pub record Runnable (l : Loaded) (lent : Lent) : Type 0 where
   pub objects : l .objects ≤ 400
   pub lines : l .lines ≤ 2000
+  pub temps : AllNarrow (codeOf (l .code) (l .lines))
   pub memory : length (lent .memory) ≡ memorySize
   pub table : length (lent .table) ≡ tableSize

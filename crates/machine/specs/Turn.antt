@@ -6,8 +6,10 @@ use mathlib.Core.List.{List, [], _++_, map}
 use mathlib.Core.Bool.{Bool, true, false}
 use lib.ListN.{length, getD, set, take, drop, replicate}
 use lib.Dec.{ltb, eqb}
+use Rattle.files.specs.declared.Operand.{Operand}
 use Rattle.files.specs.declared.Instr.{Instr}
 use Rattle.files.specs.declared.Line.{Line}
+use Rattle.files.specs.Table.{rowOf, partsOf}
 use Rattle.files.specs.View.{view}
 use Rattle.heap.specs.Memory.{memorySize, tableSize}
 use Rattle.heap.specs.Heap.{paintMade, paintFreed}
@@ -100,6 +102,28 @@ pub record Ready (h : Held) (p : Progress) : Type 0 where
 abbrev pub Low : List ℕ → Type 0
 Low starts = (g : ℕ) → getD starts g 0 ≤ 28672
 
+-- an operand that names a temporary names one of n; nothing is asked of another
+abbrev pub NarrowOperand : (n : ℕ) → Operand → (x : ℕ) → Type 0
+NarrowOperand n Operand.None x = Unit {0}
+NarrowOperand n Operand.Temporary x = x < n
+NarrowOperand n Operand.Number x = Unit {0}
+NarrowOperand n Operand.Global x = Unit {0}
+NarrowOperand n Operand.Site x = Unit {0}
+NarrowOperand n Operand.Set x = Unit {0}
+NarrowOperand n Operand.Offset x = Unit {0}
+NarrowOperand n Operand.Target x = Unit {0}
+NarrowOperand n Operand.Color x = Unit {0}
+
+-- each temporary that an instruction names is one of n
+pub record Narrow (n : ℕ) (i : Instr) : Type 0 where
+  pub first : NarrowOperand n (rowOf (partsOf i .op) .first) (partsOf i .x)
+  pub second : NarrowOperand n (rowOf (partsOf i .op) .second) (partsOf i .y)
+  pub third : NarrowOperand n (rowOf (partsOf i .op) .third) (partsOf i .z)
+
+-- the same of all code: there are 16
+abbrev pub AllNarrow : List Instr → Type 0
+AllNarrow code = (at : ℕ) → at < length code → Narrow 16 (getD code at Instr.End)
+
 -- ---- the parts of a turn
 
 -- a jump is completed
@@ -117,10 +141,6 @@ ahead p cost = record { at = p .at + 1; steps = p .steps + cost; out = p .out; t
 -- a check has passed
 abbrev pub passed : Progress → Progress
 passed p = record { at = p .at + 1; steps = p .steps; out = p .out; taken = p .taken }
-
--- where JUMPIF leads
-abbrev pub jumpsTo : (value : ℕ) → Progress → (target : ℕ) → ℕ
-jumpsTo value p target = elim (eqb value 0) [ true ↦ p .at + 1 | false ↦ target ]
 
 -- IN
 abbrev pub inputTurn : (input : List ℕ) → Progress → Turn

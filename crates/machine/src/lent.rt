@@ -1,7 +1,7 @@
 // The instructions that go to memory and to the table, through the heap's functions.
 ghost use mathlib.Core.Path.{_≡_};
-ghost use Prim.Native.Nat.{_+_};
-ghost use lib.ListN.{getD};
+ghost use Prim.Native.Nat.{_+_, _<_};
+ghost use lib.ListN.{length, getD};
 ghost use Rattle.heap.specs.Memory.{everyByte, hasColor};
 ghost use Rattle.heap.specs.Lent.{within, loaded, stored, allocated};
 ghost use Rattle.machine.specs.State.{temp};
@@ -13,14 +13,14 @@ use super::Reason;
 use super::Turn;
 use super::temps::becomes;
 use super::temps::completed;
-use super::temps::go_on;
+use super::temps::passed;
 use super::temps::value;
 use heap::Allocation;
 use heap::Load;
 use heap::Release;
 
 // The start of an object; one that is not there has 0.
-pub fn start_of(starts: &[u32], g: u16) -> u32
+pub(crate) fn start_of(starts: &[u32], g: u16) -> u32
     ensures { λ r. ⌜ r ≡ getD (now (starts .entry)) g 0 ⌝ }
 {
     let at = g as usize;
@@ -28,7 +28,7 @@ pub fn start_of(starts: &[u32], g: u16) -> u32
 }
 
 // Byte k of an object.
-pub fn byte_of(starts: &[u32], g: u16, k: u16) -> u32
+pub(crate) fn byte_of(starts: &[u32], g: u16, k: u16) -> u32
     requires { ⌜ Low (now starts) ⌝ }
     ensures { λ r. ⌜ r ≡ getD (now (starts .entry)) g 0 + k ⌝ }
 {
@@ -43,8 +43,8 @@ fn color_of(colors: &[u8], g: u16) -> u8
     if at < colors.len() { colors[at] } else { 0 }
 }
 
-pub fn load8(memory: &[u8], temps: &mut [u32], from: Progress, d: u8, a: u8) -> Turn
-    requires { ⌜ Counts from ⌝ }
+pub(crate) fn load8(memory: &[u8], temps: &mut [u32], from: Progress, d: u8, a: u8) -> Turn
+    requires { ⌜ (Counts from) × (d < length (now temps)) × (a < length (now temps)) ⌝ }
     ensures { λ r. ⌜ r ≡ loadTurn from (loaded 1 (now (memory .entry)) (temp (now (temps .entry)) a)) ⌝ }
     ensures { λ _. ⌜ now (temps .exit) ≡ loadTemps (now (temps .entry)) d (loaded 1 (now (memory .entry)) (temp (now (temps .entry)) a)) ⌝ }
 {
@@ -55,8 +55,8 @@ pub fn load8(memory: &[u8], temps: &mut [u32], from: Progress, d: u8, a: u8) -> 
     }
 }
 
-pub fn load32(memory: &[u8], temps: &mut [u32], from: Progress, d: u8, a: u8) -> Turn
-    requires { ⌜ Counts from ⌝ }
+pub(crate) fn load32(memory: &[u8], temps: &mut [u32], from: Progress, d: u8, a: u8) -> Turn
+    requires { ⌜ (Counts from) × (d < length (now temps)) × (a < length (now temps)) ⌝ }
     ensures { λ r. ⌜ r ≡ loadTurn from (loaded 4 (now (memory .entry)) (temp (now (temps .entry)) a)) ⌝ }
     ensures { λ _. ⌜ now (temps .exit) ≡ loadTemps (now (temps .entry)) d (loaded 4 (now (memory .entry)) (temp (now (temps .entry)) a)) ⌝ }
 {
@@ -67,66 +67,53 @@ pub fn load32(memory: &[u8], temps: &mut [u32], from: Progress, d: u8, a: u8) ->
     }
 }
 
-// A store that lies inside memory is completed.
-fn stored_or_not(from: Progress, inside: bool) -> Turn
-    requires { ⌜ Counts from ⌝ }
-    ensures { λ r. ⌜ r ≡ storeTurn from inside ⌝ }
+// The low byte of a temporary is written at an address.
+pub(crate) fn store8(memory: &mut [u8], temps: &[u32], from: Progress, address: u32, b: u8) -> Turn
+    requires { ⌜ (Counts from) × (b < length (now temps)) ⌝ }
+    ensures { λ r. ⌜ r ≡ storeTurn from (within 1 (now (memory .entry)) address) ⌝ }
+    ensures { λ _. ⌜ now (memory .exit) ≡ stored 1 (now (memory .entry)) address (temp (now (temps .entry)) b) ⌝ }
 {
-    if inside {
+    if heap::bytes::store8(memory, address, value(temps, b)) {
         return completed(from);
     }
     Turn::Stop(Reason::StoreOutside)
 }
 
-// The low byte of a temporary is written at an address.
-pub fn store8(memory: &mut [u8], temps: &[u32], from: Progress, address: u32, b: u8) -> Turn
-    requires { ⌜ Counts from ⌝ }
-    ensures { λ r. ⌜ r ≡ storeTurn from (within 1 (now (memory .entry)) address) ⌝ }
-    ensures { λ _. ⌜ now (memory .exit) ≡ stored 1 (now (memory .entry)) address (temp (now (temps .entry)) b) ⌝ }
-{
-    let inside = heap::bytes::store8(memory, address, value(temps, b));
-    stored_or_not(from, inside)
-}
-
 // The four bytes of a temporary are written from an address on.
-pub fn store32(memory: &mut [u8], temps: &[u32], from: Progress, address: u32, b: u8) -> Turn
-    requires { ⌜ Counts from ⌝ }
+pub(crate) fn store32(memory: &mut [u8], temps: &[u32], from: Progress, address: u32, b: u8) -> Turn
+    requires { ⌜ (Counts from) × (b < length (now temps)) ⌝ }
     ensures { λ r. ⌜ r ≡ storeTurn from (within 4 (now (memory .entry)) address) ⌝ }
     ensures { λ _. ⌜ now (memory .exit) ≡ stored 4 (now (memory .entry)) address (temp (now (temps .entry)) b) ⌝ }
 {
-    let all_inside = heap::bytes::store32(memory, address, value(temps, b));
-    stored_or_not(from, all_inside)
+    if heap::bytes::store32(memory, address, value(temps, b)) {
+        return completed(from);
+    }
+    Turn::Stop(Reason::StoreOutside)
 }
 
 // A check that the table allows passes, and costs no step.
-fn passed_or_not(from: Progress, allowed: bool) -> Turn
+pub(crate) fn check8(table: &[u8], from: Progress, address: u32, color: u8) -> Turn
     requires { ⌜ Counts from ⌝ }
-    ensures { λ r. ⌜ r ≡ checkTurn from allowed ⌝ }
+    ensures { λ r. ⌜ r ≡ checkTurn from (everyByte 1 (hasColor (now (table .entry)) color) address) ⌝ }
 {
-    if allowed {
-        return go_on(from, 0);
+    if heap::colors::check8(table, address, color) {
+        return passed(from);
     }
     Turn::Stop(Reason::Forbidden)
 }
 
-pub fn check8(table: &[u8], from: Progress, address: u32, color: u8) -> Turn
-    requires { ⌜ Counts from ⌝ }
-    ensures { λ r. ⌜ r ≡ checkTurn from (everyByte 1 (hasColor (now (table .entry)) color) address) ⌝ }
-{
-    let allowed = heap::colors::check8(table, address, color);
-    passed_or_not(from, allowed)
-}
-
-pub fn check32(table: &[u8], from: Progress, address: u32, color: u8) -> Turn
+pub(crate) fn check32(table: &[u8], from: Progress, address: u32, color: u8) -> Turn
     requires { ⌜ Counts from ⌝ }
     ensures { λ r. ⌜ r ≡ checkTurn from (everyByte 4 (hasColor (now (table .entry)) color) address) ⌝ }
 {
-    let all_allowed = heap::colors::check32(table, address, color);
-    passed_or_not(from, all_allowed)
+    if heap::colors::check32(table, address, color) {
+        return passed(from);
+    }
+    Turn::Stop(Reason::Forbidden)
 }
 
 // ALLOC: a bytes for heap site g. Memory and table have their exact lengths in a run.
-pub fn alloc(
+pub(crate) fn alloc(
     memory: &mut [u8],
     table: &mut [u8],
     colors: &[u8],
@@ -136,7 +123,7 @@ pub fn alloc(
     g: u16,
     a: u8,
 ) -> Turn
-    requires { ⌜ Counts from ⌝ }
+    requires { ⌜ (Counts from) × (d < length (now temps)) × (a < length (now temps)) ⌝ }
     ensures { λ r. ⌜ r ≡ allocTurn from (allocated (now (memory .entry)) (now (table .entry)) (temp (now (temps .entry)) a) g (getD (now (colors .entry)) g 0) .answer) ⌝ }
     ensures { λ _. ⌜ now (temps .exit) ≡ allocTemps (now (temps .entry)) d (allocated (now (memory .entry)) (now (table .entry)) (temp (now (temps .entry)) a) g (getD (now (colors .entry)) g 0) .answer) ⌝ }
     ensures { λ _. ⌜ now (memory .exit) ≡ allocated (now (memory .entry)) (now (table .entry)) (temp (now (temps .entry)) a) g (getD (now (colors .entry)) g 0) .memory ⌝ }
@@ -154,8 +141,14 @@ pub fn alloc(
 }
 
 // FREE: an address that is not 0 is given back.
-pub fn free(memory: &mut [u8], table: &mut [u8], temps: &[u32], from: Progress, a: u8) -> Turn
-    requires { ⌜ Counts from ⌝ }
+pub(crate) fn free(
+    memory: &mut [u8],
+    table: &mut [u8],
+    temps: &[u32],
+    from: Progress,
+    a: u8,
+) -> Turn
+    requires { ⌜ (Counts from) × (a < length (now temps)) ⌝ }
     ensures { λ r. ⌜ r ≡ releaseTurn from (freeAt (now (memory .entry)) (now (table .entry)) (temp (now (temps .entry)) a) .answer) ⌝ }
     ensures { λ _. ⌜ now (memory .exit) ≡ freeAt (now (memory .entry)) (now (table .entry)) (temp (now (temps .entry)) a) .memory ⌝ }
     ensures { λ _. ⌜ now (table .exit) ≡ freeAt (now (memory .entry)) (now (table .entry)) (temp (now (temps .entry)) a) .table ⌝ }

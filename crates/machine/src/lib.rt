@@ -38,12 +38,14 @@ pub struct Run {
     pub taken: usize,
 }
 
-// How far a run has come: the next instruction, the steps, and the counts of numbers out and taken.
+// How far a run has come: the counts of numbers taken and out, the next instruction, and the steps. What
+// changes least stands first: in a turn's answer a reason to stop shares the bytes of the first field,
+// and the number there is put together from its bytes in each turn.
 struct Progress {
+    taken: usize,
+    out: usize,
     at: usize,
     steps: u32,
-    out: usize,
-    taken: usize,
 }
 
 // What one turn answers.

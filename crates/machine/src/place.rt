@@ -41,7 +41,7 @@ fn place_of(code: [Line; 2000], lines: usize, at: usize) -> usize
 }
 
 // The record of a stop.
-pub fn recorded(code: [Line; 2000], lines: usize, now: Progress, reason: Reason) -> Run
+pub(crate) fn recorded(code: [Line; 2000], lines: usize, now: Progress, reason: Reason) -> Run
     requires { ⌜ lines ≤ 2000 ⌝ }
     ensures { λ r. ⌜ r ≡ recordOf (codeOf code lines) now reason ⌝ }
 {

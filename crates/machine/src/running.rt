@@ -4,7 +4,7 @@ ghost use Prim.Native.Nat.{_≤_};
 ghost use lib.ListN.{length};
 ghost use Rattle.heap.specs.Memory.{memorySize, tableSize};
 ghost use Rattle.machine.specs.Running.{Answer};
-ghost use Rattle.machine.specs.Turn.{codeOf, Low, answered, lentOf, runHeld};
+ghost use Rattle.machine.specs.Turn.{codeOf, Low, AllNarrow, answered, lentOf, runHeld};
 use super::Progress;
 use super::Reason;
 use super::Run;
@@ -13,7 +13,7 @@ use super::place::recorded;
 use super::step::step;
 use files::Line;
 
-pub fn run_code(
+pub(crate) fn run_code(
     code: [Line; 2000],
     lines: usize,
     starts: [u32; 400],
@@ -24,7 +24,7 @@ pub fn run_code(
     table: &mut [u8],
     room: &mut [u32],
 ) -> Run
-    requires { ⌜ (lines ≤ 2000) × (Low starts) × (length (now memory) ≡ memorySize) × (length (now table) ≡ tableSize) ⌝ }
+    requires { ⌜ (lines ≤ 2000) × (Low starts) × (length (now memory) ≡ memorySize) × (length (now table) ≡ tableSize) × (AllNarrow (codeOf code lines)) ⌝ }
     ensures { λ r. ⌜ answered r (lentOf (now (memory .exit)) (now (table .exit)) (now (room .exit))) ≡ runHeld (codeOf code lines) starts colors (now (input .entry)) limit (lentOf (now (memory .entry)) (now (table .entry)) (now (room .entry))) ⌝ }
 {
     let mut temps = [0u32; 16];

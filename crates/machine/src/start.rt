@@ -14,7 +14,7 @@ use files::Loaded;
 use numbers::Refusal;
 
 // The record of a refusal: zeros in its other fields.
-pub fn refused(why: Refusal) -> Run
+pub(crate) fn refused(why: Refusal) -> Run
     ensures { λ r. ⌜ r ≡ refusedRun why ⌝ }
 {
     Run {
@@ -65,7 +65,7 @@ fn lay_table(
 }
 
 // Runs what was read. Refusal 9 comes before anything is changed.
-pub fn run_loaded(
+pub(crate) fn run_loaded(
     held: Loaded,
     input: &[u32],
     limit: u32,

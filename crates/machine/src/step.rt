@@ -1,6 +1,7 @@
 // One turn: what an instruction does, with the tests for the end and for the limit passed.
 ghost use mathlib.Core.Path.{_≡_};
-ghost use Rattle.machine.specs.Turn.{Held, held, Ready, Low, turned, turnOf};
+ghost use lib.ListN.{length};
+ghost use Rattle.machine.specs.Turn.{Held, held, Ready, Low, Narrow, turned, turnOf};
 use super::Progress;
 use super::Reason;
 use super::Turn;
@@ -15,17 +16,17 @@ use super::lent::start_of;
 use super::lent::store8;
 use super::lent::store32;
 use super::moves::jump;
-use super::moves::jump_if;
 use super::moves::put_out;
 use super::moves::take_input;
 use super::temps::add;
 use super::temps::becomes;
+use super::temps::completed;
 use super::temps::less;
 use super::temps::sub;
 use super::temps::value;
 use files::Instr;
 
-pub fn step(
+pub(crate) fn step(
     i: Instr,
     from: Progress,
     starts: &[u32],
@@ -36,7 +37,7 @@ pub fn step(
     table: &mut [u8],
     room: &mut [u32],
 ) -> Turn
-    requires { ⌜ (Low (now starts)) × (Ready (held (now temps) (now memory) (now table) (now room)) from) ⌝ }
+    requires { ⌜ (Low (now starts)) × (Ready (held (now temps) (now memory) (now table) (now room)) from) × (Narrow (length (now temps)) i) ⌝ }
     ensures { λ r. ⌜ turned r (held (now (temps .exit)) (now (memory .exit)) (now (table .exit)) (now (room .exit))) ≡ turnOf (now (starts .entry)) (now (colors .entry)) (now (input .entry)) (held (now (temps .entry)) (now (memory .entry)) (now (table .entry)) (now (room .entry))) from i ⌝ }
 {
     match i {
@@ -53,7 +54,14 @@ pub fn step(
         Instr::Write8(a, b, _) => store8(memory, temps, from, value(temps, a), b),
         Instr::Write32(a, b, _) => store32(memory, temps, from, value(temps, a), b),
         Instr::Jump(p) => jump(from, p),
-        Instr::JumpIf(a, p) => jump_if(temps, from, a, p),
+        // Both ways are answered here: a function of its own is compiled to one place that the value
+        // chooses, and the next instruction then waits for the value.
+        Instr::JumpIf(a, p) => {
+            if value(temps, a) != 0 {
+                return jump(from, p);
+            }
+            completed(from)
+        }
         Instr::Alloc(d, g, a) => alloc(memory, table, colors, temps, from, d, g, a),
         Instr::Free(a) => free(memory, table, temps, from, a),
         Instr::In(d) => take_input(input, temps, from, d),

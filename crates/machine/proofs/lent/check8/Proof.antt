@@ -1,4 +1,5 @@
 use Rattle.machine.specs.Turn.{checkTurn}
+use Rattle.machine.proofs.Parts.{allows, forbids}
 use mathlib.Core.Path.{_∙_, ap}
 use borrow.Author.Needs.{needs}
 use Rattle.machine.proofs.lent.check8.Statement.{statement}
@@ -6,19 +7,27 @@ use Rattle.machine.proofs.lent.check8.Tie as tie
 use Rattle.machine.proofs.lent.check8.Reads as reads
 use Rattle.machine.proofs.lent.check8.Lts as lts
 use Rattle.heap.proofs.colors.check8.Reads as check8-reads
-use Rattle.machine.proofs.lent.passed_or_not.Reads as passed-or-not-reads
+use Rattle.machine.proofs.temps.passed.Reads as passed-reads
 
--- src/lent.rt:120:9
+-- src/lent.rt:99:8
 check8-requires : tie.Need-check8-requires
 check8-requires c κs = search needs
 
--- src/lent.rt:121:5
-passed-or-not-requires : tie.Need-passed-or-not-requires
-passed-or-not-requires c κs = search needs
+-- src/lent.rt:100:9
+passed-requires : tie.Need-passed-requires
+passed-requires c κs = search needs
 
--- src/lent.rt:116:1
+-- src/lent.rt:100:9
 returns : tie.Need-returns
-returns c = c .passed-or-not .ensures ∙ ap (checkTurn (c .before .before .before .args .from)) (c .before .check8 .ensures)
+returns c = let k = c .before .before in
+    let a = k .before .before .args in
+    allows (a .from) (c .before .if1 .taken) (c .passed .ensures) ∙ ap (checkTurn (a .from)) (k .check8 .ensures)
+
+-- src/lent.rt:95:1
+returns-2 : tie.Need-returns-2
+returns-2 c = let k = c .before in
+    let a = k .before .before .args in
+    forbids (a .from) (c .if1 .left) ∙ ap (checkTurn (a .from)) (k .check8 .ensures)
 
 pub check8-spec : {M : Type 1} → statement M
-check8-spec = tie.close (tie.spec check8-requires passed-or-not-requires returns)
+check8-spec = tie.close (tie.spec check8-requires passed-requires returns returns-2)

@@ -1,4 +1,4 @@
-use Rattle.machine.proofs.Parts.{a-store}
+use Rattle.machine.proofs.Parts.{a-store, stores, stores-not}
 use denote.Ref.{now}
 use borrow.Author.Needs.{needs}
 use Rattle.machine.proofs.lent.store8.Statement.{statement}
@@ -6,30 +6,49 @@ use Rattle.machine.proofs.lent.store8.Tie as tie
 use Rattle.machine.proofs.lent.store8.Reads as reads
 use Rattle.machine.proofs.lent.store8.Lts as lts
 use Rattle.heap.proofs.bytes.store8.Reads as store8-reads
-use Rattle.machine.proofs.lent.stored_or_not.Reads as stored-or-not-reads
+use Rattle.machine.proofs.temps.completed.Reads as completed-reads
 use Rattle.machine.proofs.temps.value.Reads as value-reads
 
--- src/lent.rt:86:55
+-- src/lent.rt:76:45
 value-requires : tie.Need-value-requires
 value-requires c κs = search needs
 
--- src/lent.rt:86:9
+-- src/lent.rt:76:8
 store8-requires : tie.Need-store8-requires
 store8-requires c κs = search needs
 
--- src/lent.rt:87:5
-stored-or-not-requires : tie.Need-stored-or-not-requires
-stored-or-not-requires c κs = search needs
+-- src/lent.rt:77:9
+completed-requires : tie.Need-completed-requires
+completed-requires c κs = search needs
 
--- src/lent.rt:81:1
+-- src/lent.rt:77:9
 same-length : tie.Need-same-length
 same-length c = search needs
 
--- src/lent.rt:81:1
+-- src/lent.rt:77:9
 returns : tie.Need-returns
-returns c = let a = c .before .before .before .before .before .before .before .before .args in
-    a-store (a .from) 1 (now (a .memory)) (a .address) (c .before .before .before .store8 .ensures .0) (c .before .before .before .store8 .ensures .1) (c .before .before .before .before .value .ensures) (c .stored-or-not .ensures)
+returns c = let k = c .before .before .before .before in
+    let a = k .before .before .before .before .before .args in
+    a-store (a .from) 1 (now (a .memory)) (a .address) (k .store8 .ensures .0) (k .store8 .ensures .1) (k .before .value .ensures) (stores (a .from) (c .before .if1 .taken) (c .completed .ensures))
+
+-- src/lent.rt:71:1
+same-length-2 : tie.Need-same-length-2
+same-length-2 c = search needs
+
+-- src/lent.rt:71:1
+returns-2 : tie.Need-returns-2
+returns-2 c = let k = c .before .before .before in
+    let a = k .before .before .before .before .before .args in
+    a-store (a .from) 1 (now (a .memory)) (a .address) (k .store8 .ensures .0) (k .store8 .ensures .1) (k .before .value .ensures) (stores-not (a .from) (c .if1 .left))
 
 pub store8-spec : {M : Type 1} → statement M
 store8-spec =
-    tie.close (tie.spec value-requires store8-requires stored-or-not-requires same-length returns)
+    tie.close
+    (tie.spec
+    value-requires
+    store8-requires
+    completed-requires
+    same-length
+    returns
+    same-length-2
+    returns-2)

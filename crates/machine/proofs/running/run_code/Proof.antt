@@ -1,4 +1,4 @@
-use Prim.Native.Nat.{ℕ, _<_}
+use Prim.Native.Nat.{ℕ, _<_, _≤_}
 use mathlib.Core.Path.{_≡_, refl, sym, _∙_, ap, subst}
 use mathlib.Core.List.{List}
 use native.Mathlib.Omega.{arith}
@@ -11,6 +11,7 @@ use Rattle.files.specs.declared.Line.{Line}
 use Rattle.machine.specs.declared.Run.{Run}
 use Rattle.machine.specs.Turn.{codeOf, Held, held, lentOf, answered, runHeld, turned, turnOf}
 use Rattle.machine.proofs.Places.{code-length, code-at}
+use Rattle.machine.proofs.Temporaries.{narrow-held}
 use Rattle.machine.proofs.Going.{Course, Going, weightOf, AfterTurn, after-turn, stops-past, stops-limit, starts-off}
 use Rattle.machine.proofs.running.run_code.Statement.{statement}
 use Rattle.machine.proofs.running.run_code.Tie as tie
@@ -49,10 +50,11 @@ course s =
 abbrev heldAt : tie.At-loop Inv-loop μ-loop → Held
 heldAt c = held (c .loop .temps) (c .loop .memory) (c .loop .table) (c .loop .room)
 
+fits : (s : tie.Start Inv-loop μ-loop) → s .args .lines ≤ length (s .args .t1)
+fits s = let long : length (s .args .t1) ≡ 2000 = s .good .0 .1 .0 .1 in omega (arith, s .pre .0)
+
 code-is : (s : tie.Start Inv-loop μ-loop) → length (codeOf (s .args .t1) (s .args .lines)) ≡ s .args .lines
-code-is s =
-    let long : length (s .args .t1) ≡ 2000 = s .good .0 .1 .0 .1 in
-    code-length (s .args .t1) (s .args .lines) (omega (arith, s .pre .0))
+code-is s = code-length (s .args .t1) (s .args .lines) (fits s)
 
 -- what the turn answers is followed by the definition
 after : (c : tie.After-step Inv-loop μ-loop) →
@@ -173,6 +175,7 @@ step-requires c κs = let s = c .before .before .before .before .before .before 
         room = l .loop .inv .0 .outs;
         counts = record { at = omega (arith, s .pre .0, c .before .before .before .before .before .before .before .before .if1 .left); steps = omega (arith, c .before .before .before .before .before .before .before .if2 .left) };
       },
+      narrow-held (s .args .t1) (s .args .lines) (l .loop .now .at) (fits s) (c .before .before .before .before .before .before .before .before .if1 .left) (s .pre .4) (l .loop .inv .1),
     )
 
 -- src/running.rt:50:24

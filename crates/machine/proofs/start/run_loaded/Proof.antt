@@ -36,12 +36,14 @@ lay-table-requires c κs = search needs
 
 -- src/start.rt:92:5
 run-code-requires : tie.Need-run-code-requires
-run-code-requires c κs = let a = c .before .before .before .before .before .before .before .before .before .before .before .before .before .before .before .before .before .before .before .before .before .before .before .before .before .before .args in (
-  c .before .before .before .before .before .before .before .before .before .before .before .before .before .before .before .before .before .before .before .before .before .before .before .before .before .before .pre .lines,
-  low-laid (a .held) (now (a .input)) (a .limit) (lentOf (now (a .memory)) (now (a .table)) (now (a .room))) (c .before .before .before .before .before .before .before .before .before .before .before .before .before .before .before .lay-out .ensures) (c .before .before .before .before .before .before .before .before .before .before .before .before .before .if1 .left),
-  c .before .before .before .before .before .before .before .before .before .before .start .kept .0 ∙ c .before .before .before .before .before .before .before .before .before .before .before .before .before .before .before .before .before .before .before .before .before .before .before .before .before .before .pre .memory,
-  c .before .before .before .before .before .before .lay-table .kept .0 ∙ c .before .before .before .before .before .before .before .before .before .before .before .before .before .before .before .before .before .before .before .before .before .before .before .before .before .before .pre .table,
-)
+run-code-requires c κs = let s = c .before .before .before .before .before .before .before .before .before .before .before .before .before .before .before .before .before .before .before .before .before .before .before .before .before .before in
+    let a = s .args in (
+      s .pre .lines,
+      low-laid (a .held) (now (a .input)) (a .limit) (lentOf (now (a .memory)) (now (a .table)) (now (a .room))) (c .before .before .before .before .before .before .before .before .before .before .before .before .before .before .before .lay-out .ensures) (c .before .before .before .before .before .before .before .before .before .before .before .before .before .if1 .left),
+      c .before .before .before .before .before .before .before .before .before .before .start .kept .0 ∙ s .pre .memory,
+      c .before .before .before .before .before .before .lay-table .kept .0 ∙ s .pre .table,
+      s .pre .temps,
+    )
 
 -- src/start.rt:68:1
 same-length : tie.Need-same-length

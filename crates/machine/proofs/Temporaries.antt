@@ -1,0 +1,71 @@
+-- The temporaries that code names are there, so that the code tests none of them when it runs.
+--
+-- The reader's law says of an accepted file that each operand is allowed, and a temporary is where it is
+-- below 16 (`narrow-operand`). The table of the opcodes carries that to any instruction (`narrow-instr`)
+-- and the list of them to any place of the code (`narrow-code`). The run loop takes the instruction from
+-- the array that holds it (`narrow-held`).
+use Prim.Native.Nat.{ℕ, _<_, _≤_}
+use mathlib.Core.Path.{_≡_, sym, subst}
+use mathlib.Core.Bool.{Bool, true}
+use mathlib.Core.List.{List}
+use native.Mathlib.Omega.{arith}
+use lib.ListN.{length, getD}
+use lib.Dec.{leb}
+use borrow.Author.Tests.{ltb-true}
+use Rattle.files.specs.declared.Operand.{Operand}
+use Rattle.files.specs.declared.Instr.{Instr}
+use Rattle.files.specs.declared.Line.{Line}
+use Rattle.files.specs.Table.{rowOf, partsOf}
+use Rattle.files.specs.Program.{Scope, lastOpcode}
+use Rattle.files.specs.Writing.{both, every, goodOperand, goodInstr}
+use Rattle.files.proofs.SpelledObjects.{both-left, both-right}
+use Rattle.machine.specs.Turn.{NarrowOperand, Narrow, AllNarrow, codeOf}
+use Rattle.machine.proofs.Places.{code-length, code-at}
+use Rattle.machine.proofs.Agreeing.{every-at}
+
+narrow-operand : (scope : Scope) (kind : Operand) (x : ℕ) → goodOperand scope kind x ≡ true → NarrowOperand 16 kind x
+narrow-operand scope Operand.None x e = tt
+narrow-operand scope Operand.Temporary x e = omega (arith, ltb-true x 16 e)
+narrow-operand scope Operand.Number x e = tt
+narrow-operand scope Operand.Global x e = tt
+narrow-operand scope Operand.Site x e = tt
+narrow-operand scope Operand.Set x e = tt
+narrow-operand scope Operand.Offset x e = tt
+narrow-operand scope Operand.Target x e = tt
+narrow-operand scope Operand.Color x e = tt
+
+narrow-instr : (scope : Scope) (i : Instr) → goodInstr scope i ≡ true → Narrow 16 i
+narrow-instr scope i e =
+    record {
+      first = narrow-operand scope (rowOf (partsOf i .op) .first) (partsOf i .x) (both-left first rest operands);
+      second = narrow-operand scope (rowOf (partsOf i .op) .second) (partsOf i .y) (both-left second third others);
+      third = narrow-operand scope (rowOf (partsOf i .op) .third) (partsOf i .z) (both-right second third others);
+    }
+  where
+    first : Bool
+    first = goodOperand scope (rowOf (partsOf i .op) .first) (partsOf i .x)
+
+    second : Bool
+    second = goodOperand scope (rowOf (partsOf i .op) .second) (partsOf i .y)
+
+    third : Bool
+    third = goodOperand scope (rowOf (partsOf i .op) .third) (partsOf i .z)
+
+    rest : Bool
+    rest = both second third
+
+    operands : both first rest ≡ true
+    operands = both-right (leb (partsOf i .op) (lastOpcode (scope .version))) (both first rest) e
+
+    others : both second third ≡ true
+    others = both-right first rest operands
+
+pub narrow-code : (scope : Scope) (code : List Instr) → every (goodInstr scope) code ≡ true → AllNarrow code
+narrow-code scope code good at h =
+    narrow-instr scope (getD code at Instr.End) (every-at (goodInstr scope) code at Instr.End good h)
+
+pub narrow-held : (code : List Line) (lines at : ℕ) → lines ≤ length code → at < lines → AllNarrow (codeOf code lines)
+    → {n : ℕ} → n ≡ 16 → Narrow n (getD code at (record { instr = Instr.End }) .instr)
+narrow-held code lines at few here all {n} lent =
+    subst (λ (m : ℕ). Narrow m (getD code at (record { instr = Instr.End }) .instr)) (sym lent)
+    (subst (Narrow 16) (code-at code lines at here) (all at (omega (arith, code-length code lines few))))
