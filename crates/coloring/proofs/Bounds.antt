@@ -10,14 +10,16 @@ use lib.ListN.{length, getD, length-append, length-map}
 use lib.Dec.{ltb, leb}
 use borrow.Author.Tests.{ltb-true, leb-true}
 use Rattle.numbers.specs.Number.{spell, groups}
-use Rattle.files.specs.declared.Instr.{Instr}
-use Rattle.files.specs.declared.Instr.the-variants.{End, Place, Add, Sub, Less, Load8, Load32, Put8, Put32, Write8, Write32, Jump, JumpIf, Alloc, Free, In, Out, Check8, Check32, CheckPut8, CheckPut32}
-use Rattle.files.specs.Table.{partsOf}
-use Rattle.files.specs.Program.{Program, within, isKind, kindsOf}
+use Rattle.opcodes.specs.declared.Instr.{Instr}
+use Rattle.opcodes.specs.declared.Instr.the-variants.{End, Place, Add, Sub, Less, Load8, Load32, Put8, Put32, Write8, Write32, Jump, JumpIf, Alloc, Free, In, Out, Check8, Check32, CheckPut8, CheckPut32}
+use Rattle.opcodes.specs.Table.{partsOf}
+use Rattle.opcodes.specs.Ranges.{within, isKind}
+use Rattle.files.specs.Program.{Program, kindsOf}
 use Rattle.files.specs.Writing.{spellFile, spellAll, spellObject, spellSet, spellInstr, both, every, rising, goodSet, goodInstr, scopeOf}
-use Rattle.files.specs.View.{view, extent}
+use Rattle.opcodes.specs.View.{view, extent}
 use Rattle.files.specs.Held.{joined}
-use Rattle.files.proofs.SpelledObjects.{both-left, both-right, within-bounds}
+use Rattle.opcodes.proofs.Bounds.{within-bounds}
+use Rattle.files.proofs.SpelledObjects.{both-left, both-right}
 use Rattle.files.proofs.SpelledInstructions.{GoodParts, good-parts}
 use Rattle.files.proofs.RoundTrip.{Good}
 use Rattle.coloring.specs.declared.Nature.{Nature}

@@ -10,11 +10,11 @@ use lib.ListN.{length, getD, set, length-set}
 use lib.Seq.{getD-set-same, getD-set-other}
 use lib.Dec.{leb}
 use borrow.Author.Tests.{lt-ltb, le-ltb}
-use Rattle.files.specs.declared.Instr.{Instr}
+use Rattle.opcodes.specs.declared.Instr.{Instr}
 use Rattle.files.specs.declared.Line.{Line}
 use Rattle.files.specs.Program.{Program}
 use Rattle.files.specs.Held.{line}
-use Rattle.files.specs.View.{inGlobal, atTemp, View, act, jump, jumpIf, store, check, view, bytes, extent}
+use Rattle.opcodes.specs.View.{inGlobal, atTemp, View, act, jump, jumpIf, store, check, view, bytes, extent}
 use Rattle.coloring.specs.declared.Nature.{Nature}
 use Rattle.coloring.specs.declared.Nature.the-variants.{Safe, Own, Listed, Jump, Check, Other}
 use Rattle.coloring.specs.Nature.{natureOf, putNature, sizesIn}

@@ -7,9 +7,9 @@ use mathlib.Core.Bool.{Bool, true, false}
 use lib.ListN.{length, getD}
 use lib.Dec.{leb}
 use Rattle.files.specs.declared.Object.{Object}
-use Rattle.files.specs.declared.Instr.{Instr}
+use Rattle.opcodes.specs.declared.Instr.{Instr}
 use Rattle.files.specs.Program.{Program}
-use Rattle.files.specs.View.{Aim, inGlobal, atTemp, View, act, jump, jumpIf, store, check, view, bytes, extent}
+use Rattle.opcodes.specs.View.{Aim, inGlobal, atTemp, View, act, jump, jumpIf, store, check, view, bytes, extent}
 use Rattle.coloring.specs.Unsafe.{sizeOf, safeAim, setOf, unsafeSet, setsIn, unsafeSets}
 use Rattle.coloring.specs.Colored.{tinted, withColors}
 

@@ -7,10 +7,10 @@ use mathlib.Core.List.{List, [], _∷_}
 use mathlib.Core.Bool.{Bool, true, false}
 use lib.ListN.{getD, set, replicate}
 use lib.Dec.{ltb, eqb}
-use Rattle.files.specs.declared.Instr.{Instr}
+use Rattle.opcodes.specs.declared.Instr.{Instr}
 use Rattle.files.specs.declared.Line.{Line}
 use Rattle.files.specs.declared.Loaded.{Loaded}
-use Rattle.files.specs.View.{view}
+use Rattle.opcodes.specs.View.{view}
 use Rattle.files.specs.Reading.{Reading, refusal}
 use Rattle.files.specs.Held.{line, held}
 use Rattle.coloring.specs.declared.Nature.{Nature}

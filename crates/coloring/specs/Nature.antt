@@ -4,7 +4,7 @@ use mathlib.Core.Bool.{true, false}
 use mathlib.Core.List.{List}
 use lib.ListN.{getD}
 use lib.Dec.{leb, ltb}
-use Rattle.files.specs.View.{Aim, inGlobal, atTemp, View, act, jump, jumpIf, store, check, bytes, extent}
+use Rattle.opcodes.specs.View.{Aim, inGlobal, atTemp, View, act, jump, jumpIf, store, check, bytes, extent}
 use Rattle.coloring.specs.declared.Nature.{Nature}
 
 -- "A PUT is safe when its last byte lies inside the global's size rounded up to eight. Every other PUT

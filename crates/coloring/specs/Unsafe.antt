@@ -5,9 +5,9 @@ use mathlib.Core.Bool.{Bool, true, false}
 use lib.ListN.{getD}
 use lib.Dec.{leb}
 use Rattle.files.specs.declared.Object.{Object}
-use Rattle.files.specs.declared.Instr.{Instr}
+use Rattle.opcodes.specs.declared.Instr.{Instr}
 use Rattle.files.specs.Program.{Program}
-use Rattle.files.specs.View.{Aim, inGlobal, atTemp, View, act, jump, jumpIf, store, check, view, bytes, extent}
+use Rattle.opcodes.specs.View.{Aim, inGlobal, atTemp, View, act, jump, jumpIf, store, check, view, bytes, extent}
 
 abbrev pub sizeOf : List Object → (g : ℕ) → ℕ
 sizeOf objects g = getD objects g (record { kind = 0; size = 0; color = 0 }) .size

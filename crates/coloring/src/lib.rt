@@ -1,8 +1,7 @@
 // Coloring: which stores are safe, which objects form a class, and the color of each object.
 //
-// A routine is read and its objects get 01's colors. `opcodes` says what each instruction is; `labels`
+// A routine is read and its objects get 01's colors. `safety` says what each instruction is; `labels`
 // finds the classes; `painting` numbers them.
-use files::Instr;
 use files::Line;
 use files::Loaded;
 use files::Outcome;
@@ -10,6 +9,7 @@ use labels::NONE;
 use labels::mark_all;
 use labels::unite_sets;
 use numbers::Refusal;
+use opcodes::Instr;
 use painting::colors_of;
 use painting::count_classes;
 ghost use mathlib.Core.Path.{_≡_};
@@ -19,8 +19,8 @@ ghost use Rattle.coloring.specs.Colored.{colored};
 ghost use Rattle.coloring.specs.Labels.{InRange, painting};
 
 mod labels;
-pub mod opcodes;
 mod painting;
+pub mod safety;
 
 // What an instruction is to the coloring.
 pub enum Nature {

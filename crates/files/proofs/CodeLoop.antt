@@ -8,10 +8,10 @@ use native.Mathlib.Omega.{arith}
 use lib.ListN.{length, set, length-append}
 use Rattle.numbers.specs.declared.Cursor.{Cursor}
 use Rattle.numbers.specs.declared.Refusal.{Refusal}
-use Rattle.files.specs.declared.Instr.{Instr}
+use Rattle.opcodes.specs.declared.Instr.{Instr}
 use Rattle.files.specs.declared.Line.{Line}
 use Rattle.files.specs.declared.InstrRead.{InstrRead}
-use Rattle.files.specs.Program.{Scope}
+use Rattle.opcodes.specs.Ranges.{Scope}
 use Rattle.files.specs.Reading.{Parsed, got, refused, readInstr, codeFrom}
 use Rattle.files.specs.Held.{filled, line}
 use Rattle.files.proofs.Filled.{map-more}

@@ -5,13 +5,13 @@ use mathlib.Core.Bool.{Bool, true, false}
 use Prim.Native.Nat.{ℕ, _+_, _^_, _<_, _≤_}
 use native.Mathlib.Omega.{arith}
 use lib.ListN.{length, drop}
-use borrow.Author.Tests.{leb-true, eqb-true}
+use borrow.Author.Tests.{eqb-true}
 use Rattle.numbers.specs.declared.Cursor.{Cursor}
 use Rattle.numbers.specs.declared.Refusal.{Refusal}
 use Rattle.numbers.specs.declared.Read.{Read}
 use Rattle.numbers.specs.Number.{readNumber}
 use Rattle.numbers.proofs.Laws.{spelled-of-read, read-of-spelled}
-use Rattle.files.specs.Program.{within, isColor, mostCode}
+use Rattle.files.specs.Program.{mostCode}
 use Rattle.files.specs.Reading.{refusal, cursor, judge, judged}
 use Rattle.files.specs.Writing.{spellIf}
 
@@ -53,15 +53,6 @@ module _ (why : ℕ) (test : ℕ → Bool) (file : List ℕ) (at : ℕ) where
           let z : _≡_ {A = ℕ} 0 1 = cc in
           absurd (omega arith)
 
--- a number from low to high
-pub within-bounds : (low high n : ℕ) → within low high n ≡ true → (low ≤ n) × (n ≤ high)
-within-bounds low high n e = go (lib.Dec.leb low n) refl (lib.Dec.leb n high) refl
-  where
-    go : (a : Bool) → lib.Dec.leb low n ≡ a → (b : Bool) → lib.Dec.leb n high ≡ b → (low ≤ n) × (n ≤ high)
-    go true p true q = (leb-true low n p, leb-true n high q)
-    go true p false q = let z : false ≡ true = sym (simp (p, q, within)) ∙ e in let w : _≡_ {A = ℕ} 0 1 = cc in absurd (omega arith)
-    go false p b q = let z : false ≡ true = sym (simp (p, within)) ∙ e in let w : _≡_ {A = ℕ} 0 1 = cc in absurd (omega arith)
-
 -- ---- a field: a number that is judged where it stands in the file, and 0 where it does not
 
 abbrev pub field : Bool → (why : ℕ) → (ℕ → Bool) → List ℕ → (at : ℕ) → Read
@@ -100,13 +91,6 @@ module _ (why : ℕ) (test : ℕ → Bool) (file : List ℕ) (at : ℕ) {n : ℕ
   pub field-small : (b : Bool) (k : ℕ) → ((m : ℕ) → test m ≡ true → m ≤ k) → field b why test file at ≡ Read.Number n next → n ≤ k
   field-small true k h e = h n (good why test file at e .right)
   field-small false k h e = let value : n ≡ 0 = cc in omega arith
-
-pub color-small : (n : ℕ) → isColor n ≡ true → n ≤ 255
-color-small n e = go (lib.Dec.eqb n 0) refl
-  where
-    go : (b : Bool) → lib.Dec.eqb n 0 ≡ b → n ≤ 255
-    go true p = omega (arith, eqb-true n 0 p)
-    go false p = within-bounds 2 255 n (sym (simp (p, isColor)) ∙ e) .1
 
 pub most-small : (version : ℕ) → mostCode version ≤ 2000
 most-small version = go (lib.Dec.eqb version 1) refl

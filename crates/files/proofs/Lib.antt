@@ -1,8 +1,7 @@
 -- What `files` promises, and what carries it.
 --
 -- Any bytes are read as version 1 or 2: the whole program, or the first refusal from left to right
--- (`read_routine`, `read_program`: equations with `held (readFile ..)`). The functions of `table` are
--- equations with the definitions of the table for every number; the crate `writer` goes by them.
+-- (`read_routine`, `read_program`: equations with `held (readFile ..)`).
 --
 -- About the definitions, for the crates above: what is written for a good program is read back as exactly
 -- that program (`RoundTrip.reads-back`); what is read is a good program and the file is byte for byte its

@@ -14,7 +14,7 @@ use Rattle.numbers.specs.declared.Cursor.{Cursor}
 use Rattle.numbers.specs.declared.Refusal.{Refusal}
 use Rattle.numbers.specs.declared.Read.{Read}
 use Rattle.numbers.proofs.Laws.{read-bounds}
-use Rattle.files.specs.Program.{within}
+use Rattle.opcodes.specs.Ranges.{within}
 use Rattle.files.specs.Reading.{Parsed, got, refused, judged, membersFrom, afterMemberCount, readSet}
 use Rattle.files.specs.Inside.{isMember, memberAt}
 use Rattle.files.proofs.Filled.{sets-append}

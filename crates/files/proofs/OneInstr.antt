@@ -1,23 +1,23 @@
 -- Reading one instruction, step by step, and what is known of its operands. Assumes nothing.
-use mathlib.Core.Path.{_≡_, refl, sym, ap, _∙_}
+use mathlib.Core.Path.{_≡_, ap, _∙_}
 use mathlib.Core.List.{List}
 use mathlib.Core.Bool.{Bool, true, false}
 use Prim.Native.Nat.{ℕ, _<_, _≤_}
 use native.Mathlib.Omega.{arith}
-use lib.ListN.{length}
-use lib.Dec.{ltb, eqb}
+use lib.Dec.{ltb}
 use borrow.Author.Tests.{ltb-true, leb-true, eqb-true}
 use Rattle.numbers.specs.declared.Cursor.{Cursor}
 use Rattle.numbers.specs.declared.Refusal.{Refusal}
 use Rattle.numbers.specs.declared.Read.{Read}
-use Rattle.files.specs.declared.Operand.{Operand}
-use Rattle.files.specs.declared.Scope as declared
+use Rattle.opcodes.proofs.Bounds.{within-bounds, kind-below, roof}
+use Rattle.opcodes.specs.declared.Operand.{Operand}
+use Rattle.opcodes.specs.declared.Scope as declared
 use Rattle.files.specs.declared.InstrRead.{InstrRead}
-use Rattle.files.specs.Table.{rowOf, make}
-use Rattle.files.specs.Program.{Scope, within, isKind, hasSets, present, allowed, lastOpcode, scopeOver}
+use Rattle.opcodes.specs.Table.{rowOf, make}
+use Rattle.opcodes.specs.Ranges.{Scope, within, hasSets, present, allowed, lastOpcode, scopeOver}
 use Rattle.files.specs.Reading.{judged, afterOpcode, afterFirst, afterSecond, afterThird, operandAt, readInstr}
-use Rattle.files.specs.Inside.{roof, Small}
-use Rattle.files.proofs.Judging.{Field, right, field-of-read, within-bounds, good}
+use Rattle.files.specs.Inside.{Small}
+use Rattle.files.proofs.Judging.{Field, right, field-of-read}
 
 module _ (scope : Scope) (file : List ℕ) (at : ℕ) where
   abbrev opcodeAt : Read
@@ -49,30 +49,9 @@ module _ (scope : Scope) (file : List ℕ) (at : ℕ) where
 
 -- ---- what a number of an operand's kind lies below
 
-pub last-opcode-small : (version : ℕ) → lastOpcode version ≤ 21
-last-opcode-small version = go (eqb version 1) refl
-  where
-    go : (b : Bool) → eqb version 1 ≡ b → lastOpcode version ≤ 21
-    go true e = simp (e, lastOpcode) (omega arith)
-    go false e = simp (e, lastOpcode) (omega arith)
-
-pub opcode-known : (scope : Scope) (file : List ℕ) (at : ℕ) {op : ℕ} {past : Cursor}
-    → judged 6 (within 0 (lastOpcode (scope .version))) file at ≡ Read.Number op past → op < 22
-opcode-known scope file at {op} e =
-    let b = within-bounds 0 _ op (good 6 (within 0 (lastOpcode (scope .version))) file at e .right) in
-    let s = last-opcode-small (scope .version) in
-    omega (arith, b .1)
-
 right-small : (b : Bool) (test : ℕ → Bool) (k n : ℕ) → ((m : ℕ) → test m ≡ true → m ≤ k) → right b test n ≡ true → n ≤ k
 right-small true test k n h e = h n e
 right-small false test k n h e = omega (arith, eqb-true n 0 e)
-
-pub kind-below : (kinds : List ℕ) (kind g : ℕ) → isKind kinds kind g ≡ true → g < length kinds
-kind-below kinds kind g e = go (ltb g (length kinds)) refl
-  where
-    go : (b : Bool) → ltb g (length kinds) ≡ b → g < length kinds
-    go true p = ltb-true g (length kinds) p
-    go false p = let z : false ≡ true = sym (simp (p, isKind)) ∙ e in let w : _≡_ {A = ℕ} 0 1 = cc in absurd (omega arith)
 
 pub operand-fits : (scope : declared.Scope) (kinds : List ℕ) → Small scope kinds → (kind : Operand) (file : List ℕ) (at : ℕ)
     {n : ℕ} {next : Cursor} → operandAt (scopeOver scope kinds) kind file at ≡ Read.Number n next → n < roof kind

@@ -6,7 +6,7 @@ use Rattle.numbers.specs.declared.Cursor.{Cursor}
 use Rattle.numbers.specs.declared.Refusal.{Refusal}
 use Rattle.numbers.specs.declared.Read.{Read}
 use Rattle.files.specs.declared.ObjectRead.{ObjectRead}
-use Rattle.files.specs.Program.{within}
+use Rattle.opcodes.specs.Ranges.{within}
 use Rattle.files.specs.Reading.{judged, afterKind, afterSize, afterColor, sizeAt, colorAt, readObject}
 
 module _ (version : ℕ) (file : List ℕ) (at : ℕ) where

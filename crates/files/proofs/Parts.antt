@@ -8,7 +8,7 @@ use lib.Seq.{sets}
 use Rattle.numbers.specs.declared.Cursor.{Cursor}
 use Rattle.numbers.specs.declared.Refusal.{Refusal}
 use Rattle.files.specs.declared.Object.{Object}
-use Rattle.files.specs.declared.Instr.{Instr}
+use Rattle.opcodes.specs.declared.Instr.{Instr}
 use Rattle.files.specs.declared.Ended.{Ended}
 use Rattle.files.specs.declared.objects.Objects.{Objects}
 use Rattle.files.specs.declared.sets.SetRead.{SetRead}

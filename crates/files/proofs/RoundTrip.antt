@@ -16,12 +16,14 @@ use borrow.Author.Tests.{eqb-true, leb-true, le-leb, eq-eqb}
 use Rattle.numbers.specs.declared.Read.{Read}
 use Rattle.numbers.specs.Number.{spell}
 use Rattle.files.specs.declared.Object.{Object}
-use Rattle.files.specs.declared.Instr.{Instr}
-use Rattle.files.specs.Program.{Program, Scope, hasSets, mostCode, longest, within, kindsOf}
+use Rattle.opcodes.specs.declared.Instr.{Instr}
+use Rattle.opcodes.specs.Ranges.{Scope, hasSets, within}
+use Rattle.files.specs.Program.{Program, mostCode, longest, kindsOf}
 use Rattle.files.specs.Reading.{Parsed, got, Reading, whole, judged, readFile, afterVersion, afterObjectCount, afterObjects, afterSetCount, afterSets, afterCodeCount, afterCode, objectsFrom, setsFrom, codeFrom}
 use Rattle.files.specs.Writing.{spellFile, spellAll, spellObject, spellSet, spellSets, spellInstr, every, goodObject, goodSet, goodSets, goodInstr, goodProgram, scopeOf, both}
 use Rattle.files.proofs.SpelledNumbers.{Stands, stands-nil, stands-append, stands-split, Judged, judged-of-read, read-of-judged}
-use Rattle.files.proofs.SpelledObjects.{both-true, both-left, both-right, within-bounds, within-true}
+use Rattle.opcodes.proofs.Bounds.{within-bounds, within-true}
+use Rattle.files.proofs.SpelledObjects.{both-true, both-left, both-right}
 use Rattle.files.proofs.SpelledInstructions.{Bounded}
 use Rattle.files.proofs.SpelledLists.{objects-of-read, read-of-objects, sets-of-read, read-of-sets, code-of-read, read-of-code}
 

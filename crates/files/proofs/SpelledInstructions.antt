@@ -1,158 +1,27 @@
--- The table of opcodes, and one instruction: what is read is what is spelled there.
-use Prim.Native.Nat.{ℕ, zero, suc, _^_, _<_, _≤_}
+-- One instruction: what is read is what is spelled there.
+use Prim.Native.Nat.{ℕ, _^_, _<_, _≤_}
 use mathlib.Core.Path.{_≡_, refl, sym, ap, _∙_, subst}
 use mathlib.Core.List.{List}
 use mathlib.Core.Bool.{Bool, true, false}
-use mathlib.Core.Logic.{_⊎_, inl, inr}
 use native.Mathlib.Omega.{arith}
-use native.Mathlib.Nat.{eq-or-lt-of-le}
 use lib.ListN.{length}
-use lib.Dec.{eqb, leb, ltb}
+use lib.Dec.{eqb, leb}
 use borrow.Author.Tests.{eqb-true, leb-true, ltb-true, le-leb}
 use Rattle.numbers.specs.declared.Cursor.{Cursor}
 use Rattle.numbers.specs.declared.Read.{Read}
 use Rattle.numbers.specs.Number.{spell}
-use Rattle.files.specs.declared.Operand.{Operand}
-use Rattle.files.specs.declared.Instr.{Instr}
-use Rattle.files.specs.declared.Instr.the-variants.{End, Place, Add, Sub, Less, Load8, Load32, Put8, Put32, Write8, Write32, Jump, JumpIf, Alloc, Free, In, Out, Check8, Check32, CheckPut8, CheckPut32}
+use Rattle.opcodes.proofs.Bounds.{within-bounds, within-true, last-most, kind-below}
+use Rattle.opcodes.proofs.Parting.{Blank, parts, parts-make, make-parts}
+use Rattle.opcodes.specs.declared.Operand.{Operand}
+use Rattle.opcodes.specs.declared.Instr.{Instr}
 use Rattle.files.specs.declared.InstrRead.{InstrRead}
-use Rattle.files.specs.declared.table.Parts.{Parts}
-use Rattle.files.specs.Table.{rowOf, make, partsOf}
-use Rattle.files.specs.Program.{Scope, within, present, allowed, isKind, lastOpcode}
+use Rattle.opcodes.specs.declared.Parts.{Parts}
+use Rattle.opcodes.specs.Table.{rowOf, make, partsOf}
+use Rattle.opcodes.specs.Ranges.{Scope, within, present, allowed, lastOpcode}
 use Rattle.files.specs.Reading.{cursor, judged, readInstr, afterOpcode, afterFirst, afterSecond, afterThird, operandAt}
 use Rattle.files.specs.Writing.{spellIf, spellParts, spellInstr, goodOperand, goodParts, goodInstr, both}
 use Rattle.files.proofs.SpelledNumbers.{Stands, stands-append, stands-split, Judged, judged-of-read, read-of-judged, Optional, optional-of-read, read-of-optional}
-use Rattle.files.proofs.SpelledObjects.{both-true, both-left, both-right, within-bounds, within-true}
-
--- ---- the table's rule, once: what holds of each number below n holds of all of them
-
-abbrev upto : (ℕ → Type 0) → ℕ → Type 0
-upto P zero = Unit {0}
-upto P (suc n) = P n × upto P n
-
-below : (P : ℕ → Type 0) (n : ℕ) → upto P n → (k : ℕ) → k < n → P k
-below P zero all k h = absurd (omega arith)
-below P (suc n) all k h = go (below P n (all .1) k) (eq-or-lt-of-le (omega arith))
-  where
-    go : (k < n → P k) → (k ≡ n) ⊎ (k < n) → P k
-    go under (inl e) = rw e (all .0)
-    go under (inr l) = under l
-
--- an operand that a row lacks is 0
-abbrev Blank : Operand → ℕ → Type 0
-Blank Operand.None n = n ≡ 0
-Blank Operand.Temporary n = Unit {0}
-Blank Operand.Number n = Unit {0}
-Blank Operand.Global n = Unit {0}
-Blank Operand.Site n = Unit {0}
-Blank Operand.Set n = Unit {0}
-Blank Operand.Offset n = Unit {0}
-Blank Operand.Target n = Unit {0}
-Blank Operand.Color n = Unit {0}
-
-abbrev parts : (op x y z : ℕ) → Parts
-parts op x y z = record { op = op; x = x; y = y; z = z }
-
--- the parts of an instruction that is made of parts are those parts
-abbrev Back : ℕ → Type 0
-Back op = (x y z : ℕ) → Blank (rowOf op .first) x → Blank (rowOf op .second) y → Blank (rowOf op .third) z
-    → partsOf (make op x y z) ≡ parts op x y z
-
-all-back : upto Back 22
-all-back = (
-  λ x y z p q r. cc,
-  (
-    λ x y z p q r. cc,
-    (
-      λ x y z p q r. cc,
-      (
-        λ x y z p q r. cc,
-        (
-          λ x y z p q r. cc,
-          (
-            λ x y z p q r. cc,
-            (
-              λ x y z p q r. cc,
-              (
-                λ x y z p q r. cc,
-                (
-                  λ x y z p q r. cc,
-                  (
-                    λ x y z p q r. cc,
-                    (
-                      λ x y z p q r. cc,
-                      (
-                        λ x y z p q r. cc,
-                        (
-                          λ x y z p q r. cc,
-                          (
-                            λ x y z p q r. cc,
-                            (
-                              λ x y z p q r. cc,
-                              (
-                                λ x y z p q r. cc,
-                                (
-                                  λ x y z p q r. cc,
-                                  (
-                                    λ x y z p q r. cc,
-                                    (
-                                      λ x y z p q r. cc,
-                                      (
-                                        λ x y z p q r. cc,
-                                        (
-                                          λ x y z p q r. cc,
-                                          (
-                                            λ x y z p q r. cc,
-                                            tt,
-                                          ),
-                                        ),
-                                      ),
-                                    ),
-                                  ),
-                                ),
-                              ),
-                            ),
-                          ),
-                        ),
-                      ),
-                    ),
-                  ),
-                ),
-              ),
-            ),
-          ),
-        ),
-      ),
-    ),
-  ),
-)
-
-pub parts-make : (op : ℕ) → op < 22 → Back op
-parts-make = below Back 22 all-back
-
-pub make-parts : (i : Instr) → make (partsOf i .op) (partsOf i .x) (partsOf i .y) (partsOf i .z) ≡ i
-make-parts End = refl
-make-parts (Instr.Set x y) = refl
-make-parts (Place x y) = refl
-make-parts (Add x y z) = refl
-make-parts (Sub x y z) = refl
-make-parts (Less x y z) = refl
-make-parts (Load8 x y) = refl
-make-parts (Load32 x y) = refl
-make-parts (Put8 x y z) = refl
-make-parts (Put32 x y z) = refl
-make-parts (Write8 x y z) = refl
-make-parts (Write32 x y z) = refl
-make-parts (Jump x) = refl
-make-parts (JumpIf x y) = refl
-make-parts (Alloc x y z) = refl
-make-parts (Free x) = refl
-make-parts (In x) = refl
-make-parts (Out x) = refl
-make-parts (Check8 x y) = refl
-make-parts (Check32 x y) = refl
-make-parts (CheckPut8 x y z) = refl
-make-parts (CheckPut32 x y z) = refl
+use Rattle.files.proofs.SpelledObjects.{both-true, both-left, both-right}
 
 -- ---- operands
 
@@ -173,19 +42,12 @@ blank-of-good scope Operand.Offset n g = tt
 blank-of-good scope Operand.Target n g = tt
 blank-of-good scope Operand.Color n g = tt
 
-kind-small : (kinds : List ℕ) (kind n : ℕ) → length kinds < 2 ^ 32 → isKind kinds kind n ≡ true → n < 2 ^ 32
-kind-small kinds kind n h e = go (ltb n (length kinds)) refl e
-  where
-    go : (b : Bool) → ltb n (length kinds) ≡ b → elim b as (λ _. Bool) [ true ↦ eqb (lib.ListN.getD kinds n 0) kind | false ↦ false ] ≡ true → n < 2 ^ 32
-    go true p e = omega (arith, ltb-true n (length kinds) p)
-    go false p e = let z : _≡_ {A = ℕ} 0 1 = cc in absurd (omega arith)
-
 small-of-allowed : (scope : Scope) → Bounded scope → (kind : Operand) (n : ℕ) → allowed scope kind n ≡ true → n < 2 ^ 32
 small-of-allowed scope b Operand.None n e = omega (arith, eqb-true n 0 e)
 small-of-allowed scope b Operand.Temporary n e = omega (arith, ltb-true n 16 e)
 small-of-allowed scope b Operand.Number n e = omega (arith, leb-true n 4294967295 e)
-small-of-allowed scope b Operand.Global n e = kind-small (scope .kinds) 0 n (b .kinds) e
-small-of-allowed scope b Operand.Site n e = kind-small (scope .kinds) 1 n (b .kinds) e
+small-of-allowed scope b Operand.Global n e = omega (arith, kind-below (scope .kinds) 0 n e, b .kinds)
+small-of-allowed scope b Operand.Site n e = omega (arith, kind-below (scope .kinds) 1 n e, b .kinds)
 small-of-allowed scope b Operand.Set n e = omega (arith, ltb-true n (scope .sets) e)
 small-of-allowed scope b Operand.Offset n e = omega (arith, leb-true n 65535 e)
 small-of-allowed scope b Operand.Target n e = omega (arith, ltb-true n (scope .code) e)
@@ -197,13 +59,6 @@ small-of-good scope b kind n g = go (present (scope .version) kind) g
     go : (s : Bool) → elim s as (λ _. Bool) [ true ↦ allowed scope kind n | false ↦ eqb n 0 ] ≡ true → n < 2 ^ 32
     go true g = small-of-allowed scope b kind n g
     go false g = omega (arith, eqb-true n 0 g)
-
-last-most : (version : ℕ) → lastOpcode version ≤ 21
-last-most version = go (eqb version 1)
-  where
-    go : (b : Bool) → elim b as (λ _. ℕ) [ true ↦ 17 | false ↦ 21 ] ≤ 21
-    go true = omega arith
-    go false = omega arith
 
 -- ---- an instruction
 

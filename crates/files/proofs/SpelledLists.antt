@@ -13,13 +13,14 @@ use Rattle.numbers.specs.declared.Read.{Read}
 use Rattle.numbers.specs.Number.{spell}
 use Rattle.files.specs.declared.Object.{Object}
 use Rattle.files.specs.declared.ObjectRead.{ObjectRead}
-use Rattle.files.specs.declared.Instr.{Instr}
+use Rattle.opcodes.specs.declared.Instr.{Instr}
 use Rattle.files.specs.declared.InstrRead.{InstrRead}
-use Rattle.files.specs.Program.{Scope, within}
+use Rattle.opcodes.specs.Ranges.{Scope, within}
 use Rattle.files.specs.Reading.{Parsed, got, cursor, judged, readObject, objectsFrom, readSet, afterMemberCount, membersFrom, setsFrom, readInstr, codeFrom}
 use Rattle.files.specs.Writing.{spellAll, spellObject, spellSet, spellInstr, every, goodObject, goodSet, goodInstr, rising, both}
 use Rattle.files.proofs.SpelledNumbers.{Stands, stands-nil, stands-append, stands-split, judged-of-read, read-of-judged}
-use Rattle.files.proofs.SpelledObjects.{both-true, both-left, both-right, within-bounds, object-of-read, read-of-object}
+use Rattle.opcodes.proofs.Bounds.{within-bounds}
+use Rattle.files.proofs.SpelledObjects.{both-true, both-left, both-right, object-of-read, read-of-object}
 use Rattle.files.proofs.SpelledInstructions.{Bounded, instr-of-read, read-of-instr}
 
 unfoldable pub many : {A : Type 0} → (one : ℕ → Parsed A) → (left at : ℕ) → (done : List A) → Parsed (List A)

@@ -5,14 +5,16 @@ use mathlib.Core.List.{List, _++_}
 use mathlib.Core.Bool.{Bool, true, false}
 use native.Mathlib.Omega.{arith}
 use lib.ListN.{length}
-use lib.Dec.{eqb, leb}
-use borrow.Author.Tests.{eqb-true, eqb-false, leb-true, eq-eqb, le-leb}
+use lib.Dec.{eqb}
+use borrow.Author.Tests.{eqb-true, eqb-false, eq-eqb}
 use Rattle.numbers.specs.declared.Cursor.{Cursor}
 use Rattle.numbers.specs.declared.Read.{Read}
 use Rattle.numbers.specs.Number.{spell}
+use Rattle.opcodes.proofs.Bounds.{within-bounds, within-true, color-small}
 use Rattle.files.specs.declared.Object.{Object}
 use Rattle.files.specs.declared.ObjectRead.{ObjectRead}
-use Rattle.files.specs.Program.{within, isColor, hasColors}
+use Rattle.opcodes.specs.Ranges.{within, isColor}
+use Rattle.files.specs.Program.{hasColors}
 use Rattle.files.specs.Reading.{cursor, judged, readObject, afterKind, afterSize, afterColor, sizeAt, colorAt}
 use Rattle.files.specs.Writing.{spellIf, spellObject, goodObject, both}
 use Rattle.files.proofs.SpelledNumbers.{Stands, stands-append, stands-split, Judged, judged-of-read, read-of-judged, goodIf, Optional, optional-of-read, read-of-optional}
@@ -37,25 +39,10 @@ both-are {a} {b} p q = both-true a b p q
 pub both-each : (a b : Bool) → both a b ≡ true → (a ≡ true) × (b ≡ true)
 both-each a b e = (both-left a b e, both-right a b e)
 
--- a number from low to high
-pub within-bounds : (low high n : ℕ) → within low high n ≡ true → (low ≤ n) × (n ≤ high)
-within-bounds low high n e = go (leb low n) refl e
-  where
-    go : (b : Bool) → leb low n ≡ b → elim b as (λ _. Bool) [ true ↦ leb n high | false ↦ false ] ≡ true → (low ≤ n) × (n ≤ high)
-    go true p e = (leb-true low n p, leb-true n high e)
-    go false p e = let z : _≡_ {A = ℕ} 0 1 = cc in absurd (omega arith)
-
-pub within-true : (low high n : ℕ) → low ≤ n → n ≤ high → within low high n ≡ true
-within-true low high n p q = simp (le-leb low n p, within) (le-leb n high q)
-
 -- a color that stands there or does not is at most 255
 pub color-most : (b : Bool) (n : ℕ) → goodIf b isColor n ≡ true → n ≤ 255
 color-most false n e = omega (arith, eqb-true n 0 e)
-color-most true n e = go (eqb n 0) refl e
-  where
-    go : (z : Bool) → eqb n 0 ≡ z → elim z as (λ _. Bool) [ true ↦ true | false ↦ within 2 255 n ] ≡ true → n ≤ 255
-    go true z e = omega (arith, eqb-true n 0 z)
-    go false z e = within-bounds 2 255 n e .1
+color-most true n e = color-small n e
 
 -- ---- an object
 

@@ -10,13 +10,14 @@ use Rattle.numbers.specs.declared.Cursor.{Cursor}
 use Rattle.numbers.specs.declared.Refusal.{Refusal}
 use Rattle.numbers.specs.declared.Read.{Read}
 use Rattle.files.specs.declared.Object.{Object}
-use Rattle.files.specs.declared.Instr.{Instr}
+use Rattle.opcodes.specs.declared.Instr.{Instr}
 use Rattle.files.specs.declared.Outcome.{Outcome}
 use Rattle.files.specs.declared.Ended.{Ended}
 use Rattle.files.specs.declared.objects.Objects.{Objects}
 use Rattle.files.specs.declared.sets.Sets.{Sets}
 use Rattle.files.specs.declared.instructions.Code.{Code}
-use Rattle.files.specs.Program.{kindsOf, hasSets, longest, mostCode, within}
+use Rattle.opcodes.specs.Ranges.{hasSets, within}
+use Rattle.files.specs.Program.{kindsOf, longest, mostCode}
 use Rattle.files.specs.Reading.{got, refused, Reading, whole, refusal, judged, afterVersion, afterObjectCount, afterObjects, afterSetCount, afterSets, afterCodeCount, afterCode, readFile}
 use Rattle.files.specs.Held.{held, heldAs}
 use Rattle.files.specs.Inside.{objectsAfter, objectsBehind, objectsOf, setsAfter, setsOf, codeAfter, codeOf, ObjectsAre, ObjectsHeld, SetsAre, SetsHeld, CodeIs, CodeHeld, wholeOf}

@@ -1,5 +1,5 @@
 -- What the functions inside the crate promise one another, where it is no sentence of 01.
-use Prim.Native.Nat.{ℕ, _+_, _<_, _≤_}
+use Prim.Native.Nat.{ℕ, _+_, _≤_}
 use mathlib.Core.Path.{_≡_}
 use mathlib.Core.List.{List, [], map}
 use mathlib.Core.Bool.{Bool, true, false}
@@ -8,10 +8,9 @@ use lib.Seq.{sets}
 use lib.Dec.{ltb, leb}
 use Rattle.numbers.specs.declared.Refusal.{Refusal}
 use Rattle.numbers.specs.declared.Read.{Read}
-use Rattle.files.specs.declared.Operand.{Operand}
 use Rattle.files.specs.declared.Object.{Object}
-use Rattle.files.specs.declared.Instr.{Instr}
-use Rattle.files.specs.declared.Scope.{Scope}
+use Rattle.opcodes.specs.declared.Instr.{Instr}
+use Rattle.opcodes.specs.declared.Scope.{Scope}
 use Rattle.files.specs.declared.ObjectRead.{ObjectRead}
 use Rattle.files.specs.declared.InstrRead.{InstrRead}
 use Rattle.files.specs.declared.Ended.{Ended}
@@ -21,31 +20,12 @@ use Rattle.files.specs.declared.objects.Objects.{Objects}
 use Rattle.files.specs.declared.sets.SetRead.{SetRead}
 use Rattle.files.specs.declared.sets.Sets.{Sets}
 use Rattle.files.specs.declared.instructions.Code.{Code}
-use Rattle.files.specs.Table.{rowOf}
-use Rattle.files.specs.Program.{hasSets, mostCode, within}
+use Rattle.opcodes.specs.Ranges.{hasSets, within}
+use Rattle.files.specs.Program.{mostCode}
 use Rattle.files.specs.Reading.{Parsed, got, refused, refusal, cursor, judged, objectsFrom, setsFrom, codeFrom}
 use Rattle.files.specs.Held.{filled, line, endsFrom, joined}
 
--- ---- the numbers of an operand's kind lie below its roof, and so fit the field that holds them
-
-abbrev pub roof : Operand → ℕ
-roof Operand.None = 1
-roof Operand.Temporary = 256
-roof Operand.Number = 4294967296
-roof Operand.Global = 65536
-roof Operand.Site = 65536
-roof Operand.Set = 65536
-roof Operand.Offset = 65536
-roof Operand.Target = 65536
-roof Operand.Color = 256
-
-pub record Fitting (op x y z : ℕ) : Type 0 where
-  pub known : op < 22
-  pub first : x < roof (rowOf op .first)
-  pub second : y < roof (rowOf op .second)
-  pub third : z < roof (rowOf op .third)
-
--- a scope whose names fit those fields
+-- a scope whose names fit the fields of an instruction
 pub record Small (scope : Scope) (kinds : List ℕ) : Type 0 where
   pub few-objects : length kinds ≤ 400
   pub few-sets : scope .sets ≤ 400

@@ -9,13 +9,14 @@ use Rattle.numbers.specs.declared.Cursor.{Cursor}
 use Rattle.numbers.specs.declared.Refusal.{Refusal}
 use Rattle.numbers.specs.declared.Read.{Read}
 use Rattle.numbers.specs.Number.{readNumber}
-use Rattle.files.specs.declared.Operand.{Operand}
+use Rattle.opcodes.specs.declared.Operand.{Operand}
 use Rattle.files.specs.declared.Object.{Object}
-use Rattle.files.specs.declared.Instr.{Instr}
+use Rattle.opcodes.specs.declared.Instr.{Instr}
 use Rattle.files.specs.declared.ObjectRead.{ObjectRead}
 use Rattle.files.specs.declared.InstrRead.{InstrRead}
-use Rattle.files.specs.Table.{rowOf, make}
-use Rattle.files.specs.Program.{Program, Scope, hasColors, hasSets, mostCode, longest, lastOpcode, within, isColor, kindsOf, present, allowed}
+use Rattle.opcodes.specs.Table.{rowOf, make}
+use Rattle.opcodes.specs.Ranges.{Scope, hasSets, lastOpcode, within, isColor, present, allowed}
+use Rattle.files.specs.Program.{Program, hasColors, mostCode, longest, kindsOf}
 
 -- the answer to reading several things: what was read and where the next thing starts, or a refusal
 pub data Parsed (A : Type 0) : Type 0 where

@@ -5,12 +5,13 @@ use mathlib.Core.Bool.{Bool, true, false}
 use lib.ListN.{length}
 use lib.Dec.{ltb, leb, eqb}
 use Rattle.numbers.specs.Number.{spell}
-use Rattle.files.specs.declared.Operand.{Operand}
+use Rattle.opcodes.specs.declared.Operand.{Operand}
 use Rattle.files.specs.declared.Object.{Object}
-use Rattle.files.specs.declared.Instr.{Instr}
-use Rattle.files.specs.declared.table.Parts.{Parts}
-use Rattle.files.specs.Table.{rowOf, partsOf}
-use Rattle.files.specs.Program.{Program, Scope, hasColors, hasSets, mostCode, longest, lastOpcode, within, isColor, kindsOf, present, allowed}
+use Rattle.opcodes.specs.declared.Instr.{Instr}
+use Rattle.opcodes.specs.declared.Parts.{Parts}
+use Rattle.opcodes.specs.Table.{rowOf, partsOf}
+use Rattle.opcodes.specs.Ranges.{Scope, hasSets, lastOpcode, within, isColor, present, allowed}
+use Rattle.files.specs.Program.{Program, hasColors, mostCode, longest, kindsOf}
 
 -- what each element of a list is spelled as, one after the other
 unfoldable pub spellAll : {A : Type 0} → (A → List ℕ) → List A → List ℕ

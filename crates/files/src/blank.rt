@@ -1,6 +1,6 @@
 // Arrays of which nothing counts yet.
-use super::Instr;
 use super::Line;
+use opcodes::Instr;
 ghost use mathlib.Core.Path.{_≡_};
 ghost use mathlib.Core.List.{[]};
 ghost use Rattle.files.specs.Held.{filled, line};

@@ -1,16 +1,16 @@
 // The fields of a file: each number is judged as soon as it is read, and a read answers the value with the
 // next cursor or a refusal, which is handed up at once.
-use super::Operand;
-use super::Scope;
-use super::table::is_allowed;
-use super::table::is_color;
-use super::table::is_present;
-use super::table::is_within;
 use numbers::Cursor;
 use numbers::Read;
 use numbers::Refusal;
+use opcodes::Operand;
+use opcodes::Scope;
+use opcodes::ranges::is_allowed;
+use opcodes::ranges::is_color;
+use opcodes::ranges::is_within;
+use opcodes::table::is_present;
 ghost use mathlib.Core.Path.{_≡_};
-ghost use Rattle.files.specs.Program.{within, scopeOver};
+ghost use Rattle.opcodes.specs.Ranges.{within, scopeOver};
 ghost use Rattle.files.specs.Reading.{judged, colorAt, sizeAt, operandAt};
 ghost use Rattle.files.specs.Inside.{whyRead, isMember, memberAt};
 

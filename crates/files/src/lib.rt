@@ -5,6 +5,7 @@
 // here, so that both directions go by one definition of a file.
 use numbers::Cursor;
 use numbers::Refusal;
+use opcodes::Instr;
 ghost use mathlib.Core.Path.{_≡_};
 ghost use Rattle.files.specs.Reading.{readFile};
 ghost use Rattle.files.specs.Held.{held};
@@ -15,53 +16,6 @@ mod instructions; // instructions.rt: the instructions of a file
 mod objects; // objects.rt: the objects of a file
 mod reading; // reading.rt: whole files
 mod sets; // sets.rt: the sets of a file
-pub mod table; // table.rt: the table of the opcodes, and the ranges of operands
-
-// What an operand of an instruction names, and so its range; `None` where there is no operand.
-pub enum Operand {
-    None,
-    Temporary,
-    Number,
-    Global,
-    Site,
-    Set,
-    Offset,
-    Target,
-    Color,
-}
-
-// The operands of an opcode, in their order in the file.
-pub struct Row {
-    pub first: Operand,
-    pub second: Operand,
-    pub third: Operand,
-}
-
-// An instruction with its operands as data. In version 2 a WRITE has no set: the field is 0.
-pub enum Instr {
-    End,
-    Set(u8, u32),
-    Place(u8, u16),
-    Add(u8, u8, u8),
-    Sub(u8, u8, u8),
-    Less(u8, u8, u8),
-    Load8(u8, u8),
-    Load32(u8, u8),
-    Put8(u16, u16, u8),
-    Put32(u16, u16, u8),
-    Write8(u8, u8, u16),
-    Write32(u8, u8, u16),
-    Jump(u16),
-    JumpIf(u8, u16),
-    Alloc(u8, u16, u8),
-    Free(u8),
-    In(u8),
-    Out(u8),
-    Check8(u8, u8),
-    Check32(u8, u8),
-    CheckPut8(u16, u16, u8),
-    CheckPut32(u16, u16, u8),
-}
 
 // One instruction as an element of an array.
 pub struct Line {
@@ -74,13 +28,6 @@ pub struct Object {
     pub kind: u8,
     pub size: u16,
     pub color: u8,
-}
-
-// What the operands of an instruction may name, beside the objects' kinds.
-pub struct Scope {
-    pub version: u8,
-    pub sets: usize,
-    pub lines: usize,
 }
 
 // What reading one object answers.

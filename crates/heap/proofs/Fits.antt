@@ -11,7 +11,7 @@ use native.Mathlib.Omega.{arith}
 use lib.ListN.{length}
 use lib.Dec.{leb, eqb}
 use borrow.Author.Tests.{le-leb, lt-leb, eq-eqb, ne-eqb, leb-true}
-use Rattle.files.specs.View.{extent}
+use Rattle.opcodes.specs.View.{extent}
 use Rattle.heap.specs.declared.Search.{Search}
 use Rattle.heap.specs.declared.Allocation.{Allocation}
 use Rattle.heap.specs.Memory.{memorySize, tableSize, numberAt}

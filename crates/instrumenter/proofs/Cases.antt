@@ -6,10 +6,10 @@ use mathlib.Core.List.{List, [], _∷_}
 use lib.ListN.{getD}
 use types.Run.{OneOf, miss}
 use denote.Enum.Declared.{tagOf}
-use Rattle.files.specs.declared.Instr.{Instr}
-use Rattle.files.specs.declared.Instr.the-variants.{End, Place, Add, Sub, Less, Load8, Load32, Put8, Put32, Write8, Write32, Jump, JumpIf, Alloc, Free, In, Out, Check8, Check32, CheckPut8, CheckPut32}
-use Rattle.files.specs.View.{view}
-use Rattle.files.proofs.Instr.{the-type}
+use Rattle.opcodes.specs.declared.Instr.{Instr}
+use Rattle.opcodes.specs.declared.Instr.the-variants.{End, Place, Add, Sub, Less, Load8, Load32, Put8, Put32, Write8, Write32, Jump, JumpIf, Alloc, Free, In, Out, Check8, Check32, CheckPut8, CheckPut32}
+use Rattle.opcodes.specs.View.{view}
+use Rattle.opcodes.proofs.Instr.{the-type}
 use Rattle.instrumenter.specs.Instrumented.{moved}
 use borrow.Author.Tests.{eq-eqb, ne-eqb}
 use Rattle.instrumenter.specs.Arrays.{checkFor, startIn, firstIn, checkNature, checkIn}

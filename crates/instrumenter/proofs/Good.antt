@@ -11,7 +11,8 @@ use Rattle.files.specs.Writing.{every, goodSet}
 use Rattle.coloring.proofs.Members.{no-test}
 -- the laws of files that this crate stands on
 pub use Rattle.files.proofs.RoundTrip.{Good, good-of, one-spelling, reads-back}
-pub use Rattle.files.proofs.SpelledObjects.{both-true, both-left, both-right, within-bounds, within-true}
+pub use Rattle.opcodes.proofs.Bounds.{within-bounds, within-true}
+pub use Rattle.files.proofs.SpelledObjects.{both-true, both-left, both-right}
 pub use Rattle.files.proofs.SpelledInstructions.{GoodParts, good-parts}
 
 module _ {A : Type 0} (test : A → Bool) where

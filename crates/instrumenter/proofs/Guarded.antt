@@ -8,10 +8,10 @@ use mathlib.Core.Path.{_≡_, refl, sym, _∙_, ap, ap₂}
 use mathlib.Core.List.{List, [], _∷_, _++_, append-assoc}
 use lib.ListN.{length, getD, take, drop, length-append}
 use lib.Seq.{take-all, take-suc, split-at, getD-at, getD-append-add}
-use Rattle.files.specs.declared.Instr.{Instr}
-use Rattle.files.specs.declared.Instr.the-variants.{End, Place, Add, Sub, Less, Load8, Load32, Put8, Put32, Write8, Write32, Jump, JumpIf, Alloc, Free, In, Out, Check8, Check32, CheckPut8, CheckPut32}
+use Rattle.opcodes.specs.declared.Instr.{Instr}
+use Rattle.opcodes.specs.declared.Instr.the-variants.{End, Place, Add, Sub, Less, Load8, Load32, Put8, Put32, Write8, Write32, Jump, JumpIf, Alloc, Free, In, Out, Check8, Check32, CheckPut8, CheckPut32}
 use Rattle.files.specs.Program.{Program}
-use Rattle.files.specs.View.{one, four, Aim, inGlobal, atTemp, View, act, jump, jumpIf, store, check, view, checkInstr}
+use Rattle.opcodes.specs.View.{one, four, Aim, inGlobal, atTemp, View, act, jump, jumpIf, store, check, view, checkInstr}
 use Rattle.instrumenter.specs.Instrumented.{checkOf, moved, guarded, spanOf, newPlace}
 use Rattle.instrumenter.proofs.Spans.{length-guarded}
 

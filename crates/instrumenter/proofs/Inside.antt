@@ -8,12 +8,13 @@ use mathlib.Core.Bool.{Bool, true, false}
 use lib.ListN.{length, getD, length-map}
 use lib.Dec.{ltb}
 use borrow.Author.Tests.{ltb-true}
-use Rattle.files.specs.declared.Instr.{Instr}
-use Rattle.files.specs.declared.Instr.the-variants.{End, Place, Add, Sub, Less, Load8, Load32, Put8, Put32, Write8, Write32, Jump, JumpIf, Alloc, Free, In, Out, Check8, Check32, CheckPut8, CheckPut32}
-use Rattle.files.specs.Table.{partsOf}
-use Rattle.files.specs.Program.{Program, within, isKind, kindsOf}
+use Rattle.opcodes.specs.declared.Instr.{Instr}
+use Rattle.opcodes.specs.declared.Instr.the-variants.{End, Place, Add, Sub, Less, Load8, Load32, Put8, Put32, Write8, Write32, Jump, JumpIf, Alloc, Free, In, Out, Check8, Check32, CheckPut8, CheckPut32}
+use Rattle.opcodes.specs.Table.{partsOf}
+use Rattle.opcodes.specs.Ranges.{within, isKind}
+use Rattle.files.specs.Program.{Program, kindsOf}
 use Rattle.files.specs.Writing.{rising, goodInstr, scopeOf}
-use Rattle.files.specs.View.{Aim, inGlobal, atTemp, View, act, jump, jumpIf, store, check, view}
+use Rattle.opcodes.specs.View.{Aim, inGlobal, atTemp, View, act, jump, jumpIf, store, check, view}
 use Rattle.coloring.specs.Unsafe.{safeAim, setOf, unsafeSet}
 use Rattle.coloring.specs.Class.{holds, unsafeObject}
 use Rattle.coloring.proofs.Members.{no-test, some-here, some-there, holds-here}

@@ -7,7 +7,8 @@ use mathlib.Core.Bool.{true}
 use lib.ListN.{length}
 use lib.Dec.{leb}
 use borrow.Author.Tests.{le-leb, lt-ltb, ltb-true}
-use Rattle.files.specs.Program.{Program, within, kindsOf}
+use Rattle.opcodes.specs.Ranges.{within}
+use Rattle.files.specs.Program.{Program, kindsOf}
 use Rattle.files.specs.Writing.{every, goodObject, goodInstr, scopeOf, goodProgram, spellFile}
 use Rattle.coloring.specs.Unsafe.{unsafeSets}
 use Rattle.coloring.specs.Colored.{tinted, colorIn, classCount}

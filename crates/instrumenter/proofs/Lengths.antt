@@ -11,11 +11,11 @@ use lib.ListN.{length, getD, length-append}
 use Rattle.numbers.specs.Number.{width}
 use Rattle.numbers.proofs.Laws.{width-last, width-more, width-least, width-most}
 use Rattle.files.specs.declared.Object.{Object}
-use Rattle.files.specs.declared.Instr.{Instr}
-use Rattle.files.specs.declared.Instr.the-variants.{End, Place, Add, Sub, Less, Load8, Load32, Put8, Put32, Write8, Write32, Jump, JumpIf, Alloc, Free, In, Out, Check8, Check32, CheckPut8, CheckPut32}
+use Rattle.opcodes.specs.declared.Instr.{Instr}
+use Rattle.opcodes.specs.declared.Instr.the-variants.{End, Place, Add, Sub, Less, Load8, Load32, Put8, Put32, Write8, Write32, Jump, JumpIf, Alloc, Free, In, Out, Check8, Check32, CheckPut8, CheckPut32}
 use Rattle.files.specs.Program.{Program}
 use Rattle.files.specs.Writing.{spellAll, spellObject, spellInstr, spellFile}
-use Rattle.files.specs.View.{Aim, inGlobal, atTemp, View, act, jump, jumpIf, store, check, view, checkInstr, one, four}
+use Rattle.opcodes.specs.View.{Aim, inGlobal, atTemp, View, act, jump, jumpIf, store, check, view, checkInstr, one, four}
 use Rattle.coloring.specs.Unsafe.{safeAim, setOf}
 use Rattle.coloring.specs.Colored.{tinted}
 use Rattle.coloring.proofs.Tinted.{tinted-length}

@@ -7,11 +7,11 @@ use mathlib.Core.Bool.{Bool, true, false}
 use lib.ListN.{length, getD}
 use lib.Dec.{leb, ltb}
 use borrow.Author.Tests.{ltb-true, lt-ltb}
-use Rattle.files.specs.declared.Instr.{Instr}
-use Rattle.files.specs.declared.Instr.the-variants.{End, Place, Add, Sub, Less, Load8, Load32, Put8, Put32, Write8, Write32, Jump, JumpIf, Alloc, Free, In, Out, Check8, Check32, CheckPut8, CheckPut32}
+use Rattle.opcodes.specs.declared.Instr.{Instr}
+use Rattle.opcodes.specs.declared.Instr.the-variants.{End, Place, Add, Sub, Less, Load8, Load32, Put8, Put32, Write8, Write32, Jump, JumpIf, Alloc, Free, In, Out, Check8, Check32, CheckPut8, CheckPut32}
 use Rattle.files.specs.Program.{Program}
 use Rattle.files.specs.Writing.{both, every, goodInstr, scopeOf}
-use Rattle.files.specs.View.{inGlobal, atTemp, View, act, jump, jumpIf, store, check, view, checkInstr, bytes, extent}
+use Rattle.opcodes.specs.View.{inGlobal, atTemp, View, act, jump, jumpIf, store, check, view, checkInstr, bytes, extent}
 use Rattle.files.specs.Held.{filled, endsFrom, joined}
 use Rattle.coloring.specs.Unsafe.{sizeOf}
 use Rattle.coloring.specs.Colored.{tinted}

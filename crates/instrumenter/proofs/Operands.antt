@@ -9,11 +9,12 @@ use lib.ListN.{length, getD}
 use lib.Dec.{ltb, leb, eqb}
 use borrow.Author.Tests.{eq-eqb, ne-eqb}
 use Rattle.files.specs.declared.Object.{Object}
-use Rattle.files.specs.declared.Instr.{Instr}
-use Rattle.files.specs.declared.Instr.the-variants.{End, Place, Add, Sub, Less, Load8, Load32, Put8, Put32, Write8, Write32, Jump, JumpIf, Alloc, Free, In, Out, Check8, Check32, CheckPut8, CheckPut32}
-use Rattle.files.specs.Program.{Program, Scope, within, isColor, isKind, kindsOf}
+use Rattle.opcodes.specs.declared.Instr.{Instr}
+use Rattle.opcodes.specs.declared.Instr.the-variants.{End, Place, Add, Sub, Less, Load8, Load32, Put8, Put32, Write8, Write32, Jump, JumpIf, Alloc, Free, In, Out, Check8, Check32, CheckPut8, CheckPut32}
+use Rattle.opcodes.specs.Ranges.{Scope, within, isColor, isKind}
+use Rattle.files.specs.Program.{Program, kindsOf}
 use Rattle.files.specs.Writing.{both, every, goodObject, goodInstr, scopeOf}
-use Rattle.files.specs.View.{View, act, jump, jumpIf, store, check, view, checkInstr}
+use Rattle.opcodes.specs.View.{View, act, jump, jumpIf, store, check, view, checkInstr}
 use Rattle.coloring.specs.Unsafe.{safeAim, setOf, unsafeSet, setsIn, unsafeSets}
 use Rattle.coloring.specs.Class.{unsafeObject}
 use Rattle.coloring.specs.Colored.{tinted}

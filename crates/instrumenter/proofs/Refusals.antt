@@ -16,13 +16,14 @@ use Rattle.numbers.specs.declared.Refusal.{Refusal}
 use Rattle.numbers.specs.declared.Read.{Read}
 use Rattle.numbers.specs.Number.{readNumber, readGroups, endsEarly}
 use Rattle.numbers.proofs.Laws.{read-bounds, refusal-is-2-or-3}
-use Rattle.files.specs.declared.Operand.{Operand}
+use Rattle.opcodes.specs.declared.Operand.{Operand}
 use Rattle.files.specs.declared.Object.{Object}
-use Rattle.files.specs.declared.Instr.{Instr}
+use Rattle.opcodes.specs.declared.Instr.{Instr}
 use Rattle.files.specs.declared.ObjectRead.{ObjectRead}
 use Rattle.files.specs.declared.InstrRead.{InstrRead}
-use Rattle.files.specs.Table.{rowOf}
-use Rattle.files.specs.Program.{Scope, hasColors, hasSets, mostCode, longest, within, isColor, kindsOf, present, allowed, lastOpcode}
+use Rattle.opcodes.specs.Table.{rowOf}
+use Rattle.opcodes.specs.Ranges.{Scope, hasSets, within, isColor, present, allowed, lastOpcode}
+use Rattle.files.specs.Program.{hasColors, mostCode, longest, kindsOf}
 use Rattle.files.specs.Reading.{Parsed, got, refused, refusal, cursor, judge, judged, afterColor, colorAt, afterSize, sizeAt, afterKind, readObject, objectsFrom, membersFrom, afterMemberCount, readSet, setsFrom, operandAt, afterThird, afterSecond, afterFirst, afterOpcode, readInstr, codeFrom, Reading, whole, afterCode, afterCodeCount, afterSets, afterSetCount, afterObjects, afterObjectCount, afterVersion, readFile}
 use Rattle.instrumenter.specs.Answer.{Answer, file, instrument}
 use Rattle.instrumenter.proofs.Answers.{Because, unread, crowded, overfull, cramped, written, refused-only-for}

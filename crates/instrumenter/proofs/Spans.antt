@@ -6,9 +6,9 @@ use mathlib.Core.Path.{_≡_, refl}
 use mathlib.Core.List.{List, [], _∷_}
 use mathlib.Core.Bool.{Bool, true, false}
 use lib.ListN.{length, take, length-append}
-use Rattle.files.specs.declared.Instr.{Instr}
+use Rattle.opcodes.specs.declared.Instr.{Instr}
 use Rattle.files.specs.Program.{Program}
-use Rattle.files.specs.View.{Aim, View, act, jump, jumpIf, store, check, view, checkInstr}
+use Rattle.opcodes.specs.View.{Aim, View, act, jump, jumpIf, store, check, view, checkInstr}
 use Rattle.coloring.specs.Unsafe.{safeAim, setOf}
 use Rattle.instrumenter.specs.Instrumented.{colorOfSet, checkOf, guarded, spanOf, newPlace}
 

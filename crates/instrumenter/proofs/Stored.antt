@@ -8,7 +8,7 @@ use lib.ListN.{length, getD, take, replicate, length-append, length-map, List·g
 use lib.Seq.{take-at, take-append-le, getD-append-add, ext-getD}
 use Rattle.layout.proofs.Pieces.{length-tabulate, getD-tabulate}
 use Rattle.files.specs.declared.Object.{Object}
-use Rattle.files.specs.declared.Instr.{Instr}
+use Rattle.opcodes.specs.declared.Instr.{Instr}
 use Rattle.files.specs.declared.Line.{Line}
 use Rattle.files.specs.Held.{filled, line, endsFrom, joined, tabulate}
 use Rattle.coloring.specs.Unsafe.{sizeOf}

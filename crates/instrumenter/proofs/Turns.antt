@@ -7,7 +7,7 @@ use mathlib.Core.List.{List, [], _∷_, _++_, map, append-assoc, append-nil, map
 use lib.ListN.{length, getD, take, set, replicate, length-append, length-map, length-set, List·getD-map}
 use lib.Seq.{take-suc, set-append-seam, getD-set-same, getD-set-other}
 use native.Mathlib.Decide.{decLt}
-use Rattle.files.specs.declared.Instr.{Instr}
+use Rattle.opcodes.specs.declared.Instr.{Instr}
 use Rattle.files.specs.declared.Line.{Line}
 use Rattle.files.specs.Held.{filled, line}
 use Rattle.instrumenter.specs.Instrumented.{moved}

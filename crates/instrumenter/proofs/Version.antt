@@ -9,7 +9,7 @@ use lib.Seq.{take-length}
 use lib.Dec.{leb}
 use borrow.Author.Tests.{le-leb}
 use Rattle.files.specs.declared.Object.{Object}
-use Rattle.files.specs.declared.Instr.{Instr}
+use Rattle.opcodes.specs.declared.Instr.{Instr}
 use Rattle.files.specs.declared.Line.{Line}
 use Rattle.files.specs.declared.Loaded.{Loaded}
 use Rattle.files.specs.declared.Outcome.{Outcome}

@@ -6,10 +6,10 @@ use mathlib.Core.Bool.{true, false}
 use mathlib.Core.List.{List, [], _∷_, _++_, map}
 use lib.ListN.{length, getD, take}
 use lib.Dec.{eqb}
-use Rattle.files.specs.declared.Instr.{Instr}
+use Rattle.opcodes.specs.declared.Instr.{Instr}
 use Rattle.files.specs.declared.Line.{Line}
 use Rattle.files.specs.declared.Loaded.{Loaded}
-use Rattle.files.specs.View.{View, act, jump, jumpIf, store, check, view, checkInstr}
+use Rattle.opcodes.specs.View.{View, act, jump, jumpIf, store, check, view, checkInstr}
 use Rattle.files.specs.Held.{filled, line}
 use Rattle.coloring.specs.declared.Nature.{Nature}
 use Rattle.coloring.specs.Nature.{natureOf, sizesIn}

@@ -1,10 +1,10 @@
 // One instruction in version 2: its check, where it is unsafe, and its copy.
 use coloring::Nature;
-use coloring::opcodes::nature_of;
-use files::Instr;
+use coloring::safety::nature_of;
+use opcodes::Instr;
 ghost use mathlib.Core.Path.{_≡_};
 ghost use lib.ListN.{getD};
-ghost use Rattle.files.specs.View.{view};
+ghost use Rattle.opcodes.specs.View.{view};
 ghost use Rattle.instrumenter.specs.Instrumented.{moved};
 ghost use Rattle.instrumenter.specs.Arrays.{startIn, firstIn, checkFor, asList, checkIn};
 

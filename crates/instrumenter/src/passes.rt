@@ -3,8 +3,8 @@
 use super::checks::Before;
 use super::checks::check_before;
 use super::checks::copy_of;
-use files::Instr;
 use files::Line;
+use opcodes::Instr;
 ghost use mathlib.Core.Path.{_≡_};
 ghost use Prim.Native.Nat.{_+_, _≤_};
 ghost use lib.ListN.{length, getD};

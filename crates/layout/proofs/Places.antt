@@ -12,7 +12,7 @@ use mathlib.Core.Bool.{Bool, true, false}
 use lib.ListN.{length, getD, take}
 use lib.Dec.{eqb}
 use borrow.Author.Tests.{eq-eqb}
-use Rattle.files.specs.View.{extent}
+use Rattle.opcodes.specs.View.{extent}
 use Rattle.layout.specs.Layout.{Piece, safeSpace, unsafeSpace, total, unsafeFrom, endOf, startOf}
 
 -- ---- totals

@@ -5,7 +5,7 @@ use mathlib.Core.Bool.{Bool, true, false}
 use lib.ListN.{length, getD, take}
 use lib.Dec.{eqb, leb}
 use Rattle.files.specs.declared.Object.{Object}
-use Rattle.files.specs.View.{extent}
+use Rattle.opcodes.specs.View.{extent}
 use Rattle.files.specs.Held.{filled, tabulate}
 use Rattle.layout.specs.declared.Layout.{Layout}
 

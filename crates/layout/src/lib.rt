@@ -5,7 +5,7 @@
 ghost use mathlib.Core.Path.{_≡_};
 ghost use Prim.Native.Nat.{_+_, _*_, _≤_, _<_};
 ghost use lib.Dec.{eqb};
-ghost use Rattle.files.specs.View.{extent};
+ghost use Rattle.opcodes.specs.View.{extent};
 ghost use Rattle.files.specs.Held.{tabulate};
 ghost use Rattle.layout.specs.Layout.{pieceAt, piecesIn, layoutOf, safeSpace, unsafeSpace, total, unsafeFrom, placeFor, counted};
 

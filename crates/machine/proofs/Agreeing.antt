@@ -13,9 +13,10 @@ use native.Mathlib.Nat.{not-suc-le-zero, le-of-suc-le-suc}
 use lib.ListN.{length, getD, set, length-map}
 use lib.Dec.{ltb, eqb}
 use borrow.Author.Tests.{ltb-true, ltb-false}
-use Rattle.files.specs.declared.Instr.{Instr}
-use Rattle.files.specs.Program.{Program, isKind, kindsOf}
-use Rattle.files.specs.View.{Aim, inGlobal, atTemp, Act, View, act, jump, jumpIf, store, check, view}
+use Rattle.opcodes.specs.declared.Instr.{Instr}
+use Rattle.opcodes.specs.Ranges.{isKind}
+use Rattle.files.specs.Program.{Program, kindsOf}
+use Rattle.opcodes.specs.View.{Aim, inGlobal, atTemp, Act, View, act, jump, jumpIf, store, check, view}
 use Rattle.files.specs.Writing.{every, goodInstr, scopeOf}
 use Rattle.files.proofs.SpelledObjects.{both-left, both-right}
 use Rattle.heap.specs.Heap.{Made, Freed, Alloc, Free, alloc}

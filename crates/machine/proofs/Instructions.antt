@@ -4,8 +4,8 @@ use mathlib.Core.Path.{_≡_, refl, _∙_, ap}
 use mathlib.Core.List.{List}
 use lib.ListN.{getD, set}
 use lib.Dec.{ltb}
-use Rattle.files.specs.declared.Instr.{Instr}
-use Rattle.files.specs.View.{Width, inGlobal, atTemp, Act, check}
+use Rattle.opcodes.specs.declared.Instr.{Instr}
+use Rattle.opcodes.specs.View.{Width, inGlobal, atTemp, Act, check}
 use Rattle.heap.specs.Memory.{everyByte, hasColor}
 use Rattle.heap.specs.Lent.{within, loaded, stored, allocated}
 use Rattle.machine.specs.declared.Reason.{Reason}

@@ -17,8 +17,8 @@ use lib.ListN.{length, getD, set, take, drop, length-append, take-append-drop}
 use lib.Seq.{length-take-le, take-suc-set, drop-set-lt, set-out}
 use lib.Dec.{ltb, leb, eqb}
 use borrow.Author.Tests.{eq-eqb, ltb-true, ltb-false}
-use Rattle.files.specs.declared.Instr.{Instr}
-use Rattle.files.specs.View.{View, Act, act, store, Aim}
+use Rattle.opcodes.specs.declared.Instr.{Instr}
+use Rattle.opcodes.specs.View.{View, Act, act, store, Aim}
 use Rattle.heap.specs.declared.Load.{Load}
 use Rattle.heap.specs.declared.Release.{Release}
 use Rattle.heap.specs.Memory.{memorySize, tableSize, bytesOf, numberAt, put, everyByte, hasColor}

@@ -15,10 +15,11 @@ use lib.Seq.{take-at}
 use lib.Dec.{ltb, leb}
 use borrow.Author.Tests.{leb-true, ltb-true, ltb-false, eq-eqb, ne-eqb, le-leb, lt-leb}
 use Rattle.numbers.specs.declared.Refusal.{Refusal}
-use Rattle.files.specs.declared.Instr.{Instr}
+use Rattle.opcodes.specs.declared.Instr.{Instr}
 use Rattle.files.specs.declared.Outcome.{Outcome}
 use Rattle.files.specs.declared.Loaded.{Loaded}
-use Rattle.files.specs.Program.{Program, within}
+use Rattle.opcodes.specs.Ranges.{within}
+use Rattle.files.specs.Program.{Program}
 use Rattle.files.specs.Reading.{Reading, whole, refusal, readFile}
 use Rattle.files.specs.Writing.{scopeOf}
 use Rattle.files.specs.Held.{filled, tabulate, line, heldAs, held}

@@ -9,10 +9,10 @@ use lib.ListN.{length, getD, take, length-map}
 use lib.Seq.{take-suc, take-take, length-take-le, getD-take}
 use types.Run.{OneOf, miss}
 use denote.Enum.Declared.{tagOf}
-use Rattle.files.specs.declared.Instr.{Instr}
+use Rattle.opcodes.specs.declared.Instr.{Instr}
 use Rattle.files.specs.declared.Line.{Line}
-use Rattle.files.specs.View.{View, act, jump, jumpIf, store, check, view}
-use Rattle.files.proofs.Instr.{the-type}
+use Rattle.opcodes.specs.View.{View, act, jump, jumpIf, store, check, view}
+use Rattle.opcodes.proofs.Instr.{the-type}
 use Rattle.machine.specs.Stop.{counts, placesIn, placeIn}
 use Rattle.machine.specs.Turn.{codeOf}
 

@@ -14,7 +14,7 @@ use lib.ListN.{length, getD, drop, replicate, length-map, length-replicate}
 use lib.Dec.{eqb}
 use borrow.Author.Tests.{eq-eqb, ne-eqb, eqb-true}
 use Rattle.files.specs.declared.Object.{Object}
-use Rattle.files.specs.View.{extent}
+use Rattle.opcodes.specs.View.{extent}
 use Rattle.files.specs.Held.{filled}
 use Rattle.files.specs.Program.{Program}
 use Rattle.layout.specs.Layout.{pieceOf, piecesOf, startOf, endOf, layoutOf}

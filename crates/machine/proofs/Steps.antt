@@ -6,8 +6,8 @@ use mathlib.Core.Bool.{Bool, true, false}
 use lib.ListN.{length, getD}
 use lib.Dec.{ltb}
 use borrow.Author.Tests.{lt-ltb, le-ltb, ltb-true, ltb-false}
-use Rattle.files.specs.declared.Instr.{Instr}
-use Rattle.files.specs.View.{Aim, store, view}
+use Rattle.opcodes.specs.declared.Instr.{Instr}
+use Rattle.opcodes.specs.View.{Aim, store, view}
 use Rattle.heap.specs.Memory.{bytesOf, put, inside}
 use Rattle.machine.specs.declared.Reason.{Reason}
 use Rattle.machine.specs.State.{Rule, Given, State, temp, addressOf}

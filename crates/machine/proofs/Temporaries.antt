@@ -12,11 +12,11 @@ use native.Mathlib.Omega.{arith}
 use lib.ListN.{length, getD}
 use lib.Dec.{leb}
 use borrow.Author.Tests.{ltb-true}
-use Rattle.files.specs.declared.Operand.{Operand}
-use Rattle.files.specs.declared.Instr.{Instr}
+use Rattle.opcodes.specs.declared.Operand.{Operand}
+use Rattle.opcodes.specs.declared.Instr.{Instr}
 use Rattle.files.specs.declared.Line.{Line}
-use Rattle.files.specs.Table.{rowOf, partsOf}
-use Rattle.files.specs.Program.{Scope, lastOpcode}
+use Rattle.opcodes.specs.Table.{rowOf, partsOf}
+use Rattle.opcodes.specs.Ranges.{Scope, lastOpcode}
 use Rattle.files.specs.Writing.{both, every, goodOperand, goodInstr}
 use Rattle.files.proofs.SpelledObjects.{both-left, both-right}
 use Rattle.machine.specs.Turn.{NarrowOperand, Narrow, AllNarrow, codeOf}

@@ -8,7 +8,7 @@ use mathlib.Core.List.{[], _∷_, _++_}
 use native.Mathlib.Omega.{arith}
 use lib.ListN.{length, length-append}
 use lib.Dec.{ltb, eqb}
-use Rattle.files.specs.View.{View, Act, act, jump, jumpIf, store, check, bytes}
+use Rattle.opcodes.specs.View.{View, Act, act, jump, jumpIf, store, check, bytes}
 use Rattle.heap.specs.Memory.{inside}
 use Rattle.heap.specs.Heap.{Alloc, Free, alloc, free}
 use Rattle.machine.specs.declared.Reason.{Reason}

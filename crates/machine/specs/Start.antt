@@ -6,7 +6,7 @@ use mathlib.Core.Bool.{true, false}
 use lib.ListN.{length, getD, replicate}
 use lib.Dec.{eqb}
 use Rattle.files.specs.declared.Loaded.{Loaded}
-use Rattle.files.specs.View.{extent}
+use Rattle.opcodes.specs.View.{extent}
 use Rattle.files.specs.Reading.{refusal}
 use Rattle.layout.specs.Layout.{Piece, piecesIn, layoutOf, fits}
 use Rattle.heap.specs.Memory.{memorySize, tableSize}

@@ -5,8 +5,8 @@ use Prim.Native.Nat.{ℕ, _+_}
 use mathlib.Core.List.{List, []}
 use mathlib.Core.Bool.{Bool}
 use lib.ListN.{getD, replicate}
-use Rattle.files.specs.declared.Instr.{Instr}
-use Rattle.files.specs.View.{Aim, inGlobal, atTemp, View}
+use Rattle.opcodes.specs.declared.Instr.{Instr}
+use Rattle.opcodes.specs.View.{Aim, inGlobal, atTemp, View}
 use Rattle.heap.specs.Memory.{memorySize}
 use Rattle.heap.specs.Heap.{Made, Freed, emptyHeap}
 

@@ -4,8 +4,8 @@ use mathlib.Core.List.{List, [], _∷_, _++_}
 use mathlib.Core.Bool.{Bool, true, false}
 use lib.ListN.{length, getD, set}
 use lib.Dec.{ltb, eqb}
-use Rattle.files.specs.declared.Instr.{Instr}
-use Rattle.files.specs.View.{Aim, inGlobal, atTemp, bytes, Act, View, act, jump, jumpIf, store, check, view}
+use Rattle.opcodes.specs.declared.Instr.{Instr}
+use Rattle.opcodes.specs.View.{Aim, inGlobal, atTemp, bytes, Act, View, act, jump, jumpIf, store, check, view}
 use Rattle.heap.specs.Memory.{bytesOf, numberAt, put, inside}
 use Rattle.heap.specs.Heap.{Alloc, Free, alloc, free}
 use Rattle.machine.specs.declared.Reason.{Reason}

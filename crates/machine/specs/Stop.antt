@@ -3,8 +3,8 @@ use Prim.Native.Nat.{ℕ, _+_}
 use mathlib.Core.List.{List, [], _∷_}
 use lib.ListN.{take}
 use Rattle.numbers.specs.declared.Refusal.{Refusal}
-use Rattle.files.specs.declared.Instr.{Instr}
-use Rattle.files.specs.View.{View, act, jump, jumpIf, store, check, view}
+use Rattle.opcodes.specs.declared.Instr.{Instr}
+use Rattle.opcodes.specs.View.{View, act, jump, jumpIf, store, check, view}
 use Rattle.machine.specs.declared.Reason.{Reason}
 use Rattle.machine.specs.declared.Run.{Run}
 

@@ -6,11 +6,11 @@ use mathlib.Core.List.{List, [], _++_, map}
 use mathlib.Core.Bool.{Bool, true, false}
 use lib.ListN.{length, getD, set, take, drop, replicate}
 use lib.Dec.{ltb, eqb}
-use Rattle.files.specs.declared.Operand.{Operand}
-use Rattle.files.specs.declared.Instr.{Instr}
+use Rattle.opcodes.specs.declared.Operand.{Operand}
+use Rattle.opcodes.specs.declared.Instr.{Instr}
 use Rattle.files.specs.declared.Line.{Line}
-use Rattle.files.specs.Table.{rowOf, partsOf}
-use Rattle.files.specs.View.{view}
+use Rattle.opcodes.specs.Table.{rowOf, partsOf}
+use Rattle.opcodes.specs.View.{view}
 use Rattle.heap.specs.Memory.{memorySize, tableSize}
 use Rattle.heap.specs.Heap.{paintMade, paintFreed}
 use Rattle.heap.specs.declared.Load.{Load}

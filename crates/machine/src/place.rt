@@ -1,15 +1,14 @@
 // The record of a stop: a place counts the instructions before it that are not checks.
 ghost use mathlib.Core.Path.{_≡_};
 ghost use Prim.Native.Nat.{_≤_};
-ghost use lib.ListN.{length};
-ghost use Rattle.files.specs.View.{view};
+ghost use Rattle.opcodes.specs.View.{view};
 ghost use Rattle.machine.specs.Stop.{counts, placeIn};
 ghost use Rattle.machine.specs.Turn.{codeOf, recordOf};
 use super::Progress;
 use super::Reason;
 use super::Run;
-use files::Instr;
 use files::Line;
+use opcodes::Instr;
 
 // 1 for an instruction that is no check.
 fn count(i: Instr) -> usize

@@ -1,9 +1,7 @@
 // The start of a run: the table is cleared and laid out, and what was read is run.
 ghost use mathlib.Core.Path.{_≡_};
 ghost use Prim.Native.Nat.{_≤_};
-ghost use lib.ListN.{length};
-ghost use Rattle.files.specs.View.{extent};
-ghost use Rattle.files.specs.Reading.{refusal};
+ghost use Rattle.opcodes.specs.View.{extent};
 ghost use Rattle.machine.specs.Stop.{refusedRun};
 ghost use Rattle.machine.specs.Turn.{answered, lentOf};
 ghost use Rattle.machine.specs.Start.{paintOne, laidTable, Runnable, runLoaded};

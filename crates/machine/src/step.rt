@@ -1,7 +1,7 @@
 // One turn: what an instruction does, with the tests for the end and for the limit passed.
 ghost use mathlib.Core.Path.{_≡_};
 ghost use lib.ListN.{length};
-ghost use Rattle.machine.specs.Turn.{Held, held, Ready, Low, Narrow, turned, turnOf};
+ghost use Rattle.machine.specs.Turn.{held, Ready, Low, Narrow, turned, turnOf};
 use super::Progress;
 use super::Reason;
 use super::Turn;
@@ -24,7 +24,7 @@ use super::temps::completed;
 use super::temps::less;
 use super::temps::sub;
 use super::temps::value;
-use files::Instr;
+use opcodes::Instr;
 
 pub(crate) fn step(
     i: Instr,

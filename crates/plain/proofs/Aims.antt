@@ -9,9 +9,9 @@ use mathlib.Core.Bool.{Bool, true, false}
 use lib.ListN.{length, getD}
 use lib.Dec.{eqb}
 use borrow.Author.Tests.{eq-eqb, ne-eqb, le-leb}
-use Rattle.files.specs.declared.Instr.{Instr}
+use Rattle.opcodes.specs.declared.Instr.{Instr}
 use Rattle.files.specs.Program.{Program}
-use Rattle.files.specs.View.{one, four, Aim, inGlobal, atTemp, store, view}
+use Rattle.opcodes.specs.View.{one, four, Aim, inGlobal, atTemp, store, view}
 use Rattle.coloring.specs.Unsafe.{safeAim, setOf, unsafeSet, setsIn, unsafeSets}
 use Rattle.coloring.specs.Class.{holds, some, unsafeObject}
 use Rattle.heap.specs.Memory.{memorySize, inside}

@@ -5,9 +5,9 @@ use mathlib.Core.Path.{_≡_, refl, sym, _∙_, ap}
 use mathlib.Core.List.{List, []}
 use mathlib.Core.Bool.{true, false}
 use lib.ListN.{length, getD}
-use Rattle.files.specs.declared.Instr.{Instr}
+use Rattle.opcodes.specs.declared.Instr.{Instr}
 use Rattle.files.specs.Program.{Program}
-use Rattle.files.specs.View.{Aim, store, check, view}
+use Rattle.opcodes.specs.View.{Aim, store, check, view}
 use Rattle.coloring.specs.Unsafe.{safeAim, setOf}
 use Rattle.layout.specs.Layout.{startOf, fits}
 use Rattle.instrumenter.specs.Instrumented.{colorOfSet}

@@ -12,7 +12,7 @@ use lib.Dec.{eqb}
 use borrow.Author.Tests.{eq-eqb, ne-eqb, eqb-true, leb-true}
 use Rattle.files.specs.declared.Object.{Object}
 use Rattle.files.specs.Program.{Program}
-use Rattle.files.specs.View.{extent}
+use Rattle.opcodes.specs.View.{extent}
 use Rattle.coloring.specs.Unsafe.{unsafeSets, sizeOf}
 use Rattle.coloring.specs.Class.{unsafeObject}
 use Rattle.coloring.specs.Colored.{tinted}

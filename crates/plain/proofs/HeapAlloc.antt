@@ -8,7 +8,7 @@ use mathlib.Core.Bool.{Bool, true, false}
 use lib.ListN.{length, getD}
 use lib.Dec.{eqb, leb}
 use borrow.Author.Tests.{eqb-false, ne-eqb, leb-true}
-use Rattle.files.specs.View.{extent}
+use Rattle.opcodes.specs.View.{extent}
 use Rattle.heap.specs.Memory.{memorySize, tableSize, colorAt, paint}
 use Rattle.heap.specs.Heap.{heapStart, endSlot, Block, bodyOf, isFree, putHeader, handOut, blocks, walk, Made, Alloc, takeBlock, firstFit, allocIn, alloc, paintMade}
 use Rattle.heap.proofs.Memory.{numberAt-same, length-paint, paint-outside, paint-inside}

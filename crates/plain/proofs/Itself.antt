@@ -7,7 +7,7 @@ use mathlib.Core.Bool.{Bool, true, false}
 use lib.ListN.{length}
 use Rattle.files.specs.Program.{Program}
 use Rattle.files.specs.Writing.{goodProgram}
-use Rattle.files.specs.View.{Aim, View, act, jump, jumpIf, store, check, view, checkInstr}
+use Rattle.opcodes.specs.View.{Aim, View, act, jump, jumpIf, store, check, view, checkInstr}
 use Rattle.coloring.specs.Unsafe.{safeAim, setOf, unsafeSets}
 use Rattle.coloring.specs.Colored.{colorIn, classCount}
 use Rattle.coloring.proofs.Colors.{color-apart, color-together}

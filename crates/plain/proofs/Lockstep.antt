@@ -23,9 +23,9 @@ use mathlib.Core.Bool.{Bool, true, false, false≢true}
 use lib.ListN.{length, getD}
 use lib.Dec.{ltb, eqb}
 use borrow.Author.Tests.{ltb-true, ltb-false, leb-true, eqb-true}
-use Rattle.files.specs.declared.Instr.{Instr}
+use Rattle.opcodes.specs.declared.Instr.{Instr}
 use Rattle.files.specs.Program.{Program}
-use Rattle.files.specs.View.{Aim, inGlobal, atTemp, Act, View, act, jump, jumpIf, store, check, view, extent}
+use Rattle.opcodes.specs.View.{Aim, inGlobal, atTemp, Act, View, act, jump, jumpIf, store, check, view, extent}
 use Rattle.coloring.specs.Unsafe.{safeAim, setOf, sizeOf}
 use Rattle.layout.specs.Layout.{startOf, fits}
 use Rattle.instrumenter.proofs.Guarded.{movedView, view-moved, view-check}

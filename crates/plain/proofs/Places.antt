@@ -10,9 +10,9 @@ use lib.ListN.{length, getD, take}
 use lib.Dec.{ltb}
 use lib.Seq.{take-suc, take-all}
 use borrow.Author.Tests.{ltb-true, ltb-false}
-use Rattle.files.specs.declared.Instr.{Instr}
+use Rattle.opcodes.specs.declared.Instr.{Instr}
 use Rattle.files.specs.Program.{Program}
-use Rattle.files.specs.View.{View, act, jump, jumpIf, store, check, view}
+use Rattle.opcodes.specs.View.{View, act, jump, jumpIf, store, check, view}
 use Rattle.coloring.specs.Unsafe.{setOf}
 use Rattle.instrumenter.specs.Instrumented.{colorOfSet, moved}
 use Rattle.instrumenter.proofs.Guarded.{movedView, view-moved, view-check}

@@ -6,8 +6,8 @@ use mathlib.Core.List.{List}
 use mathlib.Core.Bool.{Bool, true, false}
 use lib.ListN.{length, getD}
 use lib.Dec.{ltb}
-use Rattle.files.specs.declared.Instr.{Instr}
-use Rattle.files.specs.View.{Act, View, act, jump, jumpIf, store, check, view}
+use Rattle.opcodes.specs.declared.Instr.{Instr}
+use Rattle.opcodes.specs.View.{Act, View, act, jump, jumpIf, store, check, view}
 use Rattle.heap.specs.Memory.{inside}
 use Rattle.machine.specs.declared.Reason.{Reason}
 use Rattle.machine.specs.State.{Rule, Given, State, addressOf}

@@ -4,9 +4,9 @@ use native.Mathlib.Omega.{arith}
 use mathlib.Core.Path.{_≡_, sym, _∙_, ap}
 use mathlib.Core.Bool.{true, false, false≢true}
 use lib.ListN.{length}
-use Rattle.files.specs.declared.Instr.{Instr}
+use Rattle.opcodes.specs.declared.Instr.{Instr}
 use Rattle.files.specs.Program.{Program}
-use Rattle.files.specs.View.{Aim, store, view, checkInstr}
+use Rattle.opcodes.specs.View.{Aim, store, view, checkInstr}
 use Rattle.coloring.specs.Unsafe.{safeAim, setOf}
 use Rattle.instrumenter.specs.Instrumented.{colorOfSet, moved}
 use Rattle.plain.specs.Guards.{instrAt, mustCheck, Stands, Guards}

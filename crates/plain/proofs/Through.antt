@@ -5,9 +5,9 @@ use mathlib.Core.Path.{_≡_, sym, _∙_, ap}
 use mathlib.Core.List.{List, []}
 use mathlib.Core.Bool.{true}
 use lib.ListN.{getD}
-use Rattle.files.specs.declared.Instr.{Instr}
+use Rattle.opcodes.specs.declared.Instr.{Instr}
 use Rattle.files.specs.Program.{Program}
-use Rattle.files.specs.View.{Aim, store, view}
+use Rattle.opcodes.specs.View.{Aim, store, view}
 use Rattle.layout.specs.Layout.{fits}
 use Rattle.machine.specs.State.{Given, State, startState}
 use Rattle.machine.specs.Step.{next, step}

@@ -10,9 +10,9 @@ use mathlib.Core.Bool.{Bool, true, false, false≢true}
 use lib.ListN.{length, getD}
 use lib.Dec.{ltb}
 use borrow.Author.Tests.{ltb-true, ltb-false, leb-true}
-use Rattle.files.specs.declared.Instr.{Instr}
+use Rattle.opcodes.specs.declared.Instr.{Instr}
 use Rattle.files.specs.Program.{Program}
-use Rattle.files.specs.View.{Aim, inGlobal, atTemp, View, act, jump, jumpIf, store, check, view, extent}
+use Rattle.opcodes.specs.View.{Aim, inGlobal, atTemp, View, act, jump, jumpIf, store, check, view, extent}
 use Rattle.coloring.specs.Unsafe.{safeAim, setOf, unsafeSets, sizeOf}
 use Rattle.coloring.specs.Class.{unsafeObject}
 use Rattle.layout.specs.Layout.{startOf, fits}

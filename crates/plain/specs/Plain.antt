@@ -7,7 +7,7 @@ use lib.ListN.{getD}
 use lib.Dec.{eqb}
 use Rattle.files.specs.declared.Object.{Object}
 use Rattle.files.specs.Program.{Program}
-use Rattle.files.specs.View.{View, act, jump, jumpIf, store, check, extent}
+use Rattle.opcodes.specs.View.{View, act, jump, jumpIf, store, check, extent}
 use Rattle.coloring.specs.Unsafe.{safeAim, setOf, unsafeSets}
 use Rattle.coloring.specs.Class.{unsafeObject, sameClass}
 use Rattle.layout.specs.Layout.{Piece, startOf}

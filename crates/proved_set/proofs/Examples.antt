@@ -7,11 +7,11 @@ use lib.ListN.{length, take, drop}
 use Rattle.numbers.specs.declared.Read.{Read}
 use Rattle.numbers.specs.Number.{readGroups, groups, readNumber}
 use Rattle.files.specs.declared.Object.{Object}
-use Rattle.files.specs.declared.Instr.{Instr}
+use Rattle.opcodes.specs.declared.Instr.{Instr}
 use Rattle.files.specs.Program.{Program}
 use Rattle.files.specs.Reading.{Reading, whole, readFile, objectsFrom, setsFrom, membersFrom, codeFrom}
 use Rattle.files.specs.Writing.{spellFile, spellAll}
-use Rattle.files.specs.View.{inGlobal, four, extent}
+use Rattle.opcodes.specs.View.{inGlobal, four, extent}
 use Rattle.coloring.specs.Unsafe.{setsIn, safeAim}
 use Rattle.coloring.specs.Class.{holds, some, meets, join, classesOf}
 use Rattle.coloring.specs.Color.{lowestFrom, classesBelow, colorOf}

@@ -13,10 +13,10 @@ use Rattle.numbers.specs.Number.{spell, width}
 use Rattle.numbers.proofs.Laws.{width-most}
 use Rattle.writer.specs.declared.measuring.Length.{Length}
 use Rattle.files.specs.declared.Object.{Object}
-use Rattle.files.specs.declared.Instr.{Instr}
-use Rattle.files.specs.declared.table.Parts.{Parts}
-use Rattle.files.specs.Table.{partsOf, rowOf}
-use Rattle.files.specs.Program.{Scope, present, within, isColor, lastOpcode}
+use Rattle.opcodes.specs.declared.Instr.{Instr}
+use Rattle.opcodes.specs.declared.Parts.{Parts}
+use Rattle.opcodes.specs.Table.{partsOf, rowOf}
+use Rattle.opcodes.specs.Ranges.{Scope, present, within, isColor, lastOpcode}
 use Rattle.files.specs.Writing.{spellIf, spellAll, spellObject, spellInstr, spellParts, every, both, goodObject, goodOperand, goodParts}
 use Rattle.files.specs.Held.{tabulate}
 use Rattle.writer.specs.Inside.{measured}

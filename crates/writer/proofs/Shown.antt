@@ -10,12 +10,14 @@ use lib.Dec.{leb}
 use borrow.Author.Tests.{le-leb, lt-leb, leb-true}
 use Rattle.numbers.specs.Number.{spell, width}
 use Rattle.files.specs.declared.Line.{Line}
-use Rattle.files.specs.Program.{Program, within, kindsOf, scopeOver}
+use Rattle.opcodes.specs.Ranges.{within, scopeOver}
+use Rattle.files.specs.Program.{Program, kindsOf}
 use Rattle.files.specs.Writing.{spellAll, spellObject, spellInstr, spellFile, every, both, goodObject, goodInstr, scopeOf, goodProgram}
 use Rattle.files.specs.Held.{tabulate}
 use Rattle.writer.specs.Inside.{objectIn, shownIn, sayable}
 use Rattle.writer.proofs.Lengths.{both-no, both-then}
-use Rattle.files.proofs.SpelledObjects.{both-are, both-each, within-bounds}
+use Rattle.opcodes.proofs.Bounds.{within-bounds}
+use Rattle.files.proofs.SpelledObjects.{both-are, both-each}
 
 pub length-tabulate : {A : Type 0} (f : ℕ → A) (i n : ℕ) → length (tabulate f i n) ≡ n
 unfolding tabulate

@@ -5,9 +5,10 @@ use mathlib.Core.Bool.{Bool, true, false}
 use lib.ListN.{length, getD, take}
 use lib.Dec.{leb}
 use Rattle.files.specs.declared.Object.{Object}
-use Rattle.files.specs.declared.Instr.{Instr}
+use Rattle.opcodes.specs.declared.Instr.{Instr}
 use Rattle.files.specs.declared.Line.{Line}
-use Rattle.files.specs.Program.{Program, Scope}
+use Rattle.opcodes.specs.Ranges.{Scope}
+use Rattle.files.specs.Program.{Program}
 use Rattle.files.specs.Writing.{spellAll, spellObject, spellInstr, every, both, goodObject, goodInstr, goodProgram}
 use Rattle.files.specs.Held.{tabulate}
 use Rattle.writer.specs.declared.measuring.Length.{Length}

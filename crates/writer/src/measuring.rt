@@ -1,23 +1,23 @@
 // The measuring pass: how many bytes each part of a program takes, and whether a file can say it. Every
 // field is judged by the table that the reader goes by.
-use files::Instr;
 use files::Line;
-use files::Operand;
-use files::Scope;
-use files::table::is_allowed;
-use files::table::is_color;
-use files::table::is_present;
-use files::table::is_within;
-use files::table::last_opcode;
-use files::table::parts_of;
-use files::table::row_of;
+use opcodes::Instr;
+use opcodes::Operand;
+use opcodes::Scope;
+use opcodes::making::parts_of;
+use opcodes::ranges::is_allowed;
+use opcodes::ranges::is_color;
+use opcodes::ranges::is_within;
+use opcodes::table::is_present;
+use opcodes::table::last_opcode;
+use opcodes::table::row_of;
 ghost use mathlib.Core.Path.{_≡_};
 ghost use mathlib.Core.List.{map};
 ghost use Prim.Native.Nat.{_+_, _≤_};
 ghost use lib.ListN.{length, take};
 ghost use lib.Dec.{leb};
 ghost use Rattle.numbers.specs.Number.{width};
-ghost use Rattle.files.specs.Program.{within, present, scopeOver};
+ghost use Rattle.opcodes.specs.Ranges.{within, present, scopeOver};
 ghost use Rattle.files.specs.Writing.{spellIf, spellObject, spellInstr, spellFile, both, goodObject, goodOperand, goodInstr};
 ghost use Rattle.files.specs.Held.{tabulate};
 ghost use Rattle.writer.specs.Inside.{measured, objectIn, codeMeasured, objectsMeasured, shownIn, sayable};

@@ -1,9 +1,9 @@
 // The writing pass: the numbers of a program, one after the other, into a room where they fit.
-use files::Instr;
 use files::Line;
-use files::table::is_present;
-use files::table::parts_of;
-use files::table::row_of;
+use opcodes::Instr;
+use opcodes::making::parts_of;
+use opcodes::table::is_present;
+use opcodes::table::row_of;
 ghost use mathlib.Core.Path.{_≡_};
 ghost use mathlib.Core.List.{map};
 ghost use Prim.Native.Nat.{_+_, _≤_};

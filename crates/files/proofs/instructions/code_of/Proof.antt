@@ -4,10 +4,12 @@ use mathlib.Core.Bool.{true}
 use denote.Ref.{now}
 use native.Mathlib.Omega.{arith}
 use Rattle.files.specs.declared.Ended.{Ended}
-use Rattle.files.specs.Program.{within, mostCode}
+use Rattle.opcodes.specs.Ranges.{within}
+use Rattle.files.specs.Program.{mostCode}
 use Rattle.files.specs.Reading.{judged}
 use Rattle.files.specs.Inside.{whyRead, codeAfter}
-use Rattle.files.proofs.Judging.{field-small, within-bounds, most-small}
+use Rattle.opcodes.proofs.Bounds.{within-bounds}
+use Rattle.files.proofs.Judging.{field-small, most-small}
 use borrow.Author.Needs.{needs}
 use Rattle.files.proofs.instructions.code_of.Statement.{statement}
 use Rattle.files.proofs.instructions.code_of.Tie as tie

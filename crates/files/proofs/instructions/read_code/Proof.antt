@@ -3,7 +3,7 @@ use Prim.Native.Nat.{_-_}
 use native.Mathlib.Omega.{arith}
 use borrow.Author.Needs.{needs}
 use Rattle.files.specs.declared.Ended.{Ended}
-use Rattle.files.specs.Program.{scopeOver}
+use Rattle.opcodes.specs.Ranges.{scopeOver}
 use Rattle.files.specs.Inside.{whyInstr}
 use Rattle.files.proofs.CodeLoop.{Filling, start, more, stops, ends}
 use Rattle.files.proofs.instructions.read_code.Statement.{statement}

@@ -2,14 +2,15 @@ use mathlib.Core.Path.{_≡_, sym, ap, _∙_}
 use Prim.Native.Nat.{ℕ}
 use denote.Ref.{now}
 use Rattle.numbers.specs.declared.Read.{Read}
-use Rattle.files.specs.declared.Row.{Row}
-use Rattle.files.specs.declared.Instr.{Instr}
+use Rattle.opcodes.proofs.Bounds.{made-whole}
+use Rattle.opcodes.specs.declared.Row.{Row}
+use Rattle.opcodes.specs.declared.Instr.{Instr}
 use Rattle.files.specs.declared.InstrRead.{InstrRead}
-use Rattle.files.specs.Table.{rowOf}
-use Rattle.files.specs.Program.{Scope, within, lastOpcode, scopeOver}
+use Rattle.opcodes.specs.Table.{rowOf}
+use Rattle.opcodes.specs.Ranges.{Scope, within, lastOpcode, scopeOver}
 use Rattle.files.specs.Reading.{judged, operandAt}
 use Rattle.files.specs.Inside.{whyRead}
-use Rattle.files.proofs.OneInstr.{no-opcode, no-first, no-second, no-third, an-instr, opcode-known, operand-fits}
+use Rattle.files.proofs.OneInstr.{no-opcode, no-first, no-second, no-third, an-instr, operand-fits}
 use borrow.Author.Needs.{needs}
 use Rattle.files.proofs.instructions.read_instr.Statement.{statement}
 use Rattle.files.proofs.instructions.read_instr.Tie as tie
@@ -126,20 +127,24 @@ returns-4 c =
     (sym (ap (λ (r : Row). operandAt (scope-of (c .before .before .before .before .before .before .before .before .before .before .before .before .before)) (r .third) (now (c .before .before .before .before .before .before .before .before .before .before .before .before .before .before .before .before .before .before .before .before .args .file)) (c .before .before .before .before .before .second .given .0 .1 .0 .at)) (c .before .before .before .before .before .before .before .before .before .before .before .before .row-of .ensures)) ∙ sym (c .before .before .before .operand-at3 .ensures) ∙ c .before .enum-told4 .given .1))
 
 instr-of-requires : tie.Need-instr-of-requires
-instr-of-requires c κs =
-    let s = c .before .before .before .before .before .before .before .before .before .before .before .before .before in
-    let small = s .before .before .before .before .before .before .before .pre in
-    record {
-      known = opcode-known (scope-of s) _ _ (opcode-is s);
-      first = operand-fits _ _ small (rowOf (s .before .opcode .given .0 .0) .first) (now (s .before .before .before .before .before .before .before .args .file)) (s .before .opcode .given .0 .1 .0 .at) (first-is (c .before .before .before .before .before .before .before .before));
-      second = operand-fits _ _ small (rowOf (s .before .opcode .given .0 .0) .second) (now (s .before .before .before .before .before .before .before .args .file)) (c .before .before .before .before .before .before .before .before .before .first .given .0 .1 .0 .at) (second-is (c .before .before .before .before));
-      third = operand-fits _ _ small (rowOf (s .before .opcode .given .0 .0) .third) (now (s .before .before .before .before .before .before .before .args .file)) (c .before .before .before .before .before .second .given .0 .1 .0 .at) (third-is c);
-    }
+instr-of-requires c κs = search needs
 
 returns-5 : tie.Need-returns-5
 returns-5 c =
-    ap (λ (i : Instr). InstrRead.Instr i (c .before .before .third .given .0 .1 .0)) (c .instr-of .ensures)
-    ∙ sym (an-instr (scope-of (c .before .before .before .before .before .before .before .before .before .before .before .before .before .before)) _ _ (opcode-is (c .before .before .before .before .before .before .before .before .before .before .before .before .before .before)) (first-is (c .before .before .before .before .before .before .before .before .before)) (second-is (c .before .before .before .before .before)) (third-is (c .before)))
+    let k = c .before in
+    let s = k .before .before .before .before .before .before .before .before .before .before .before .before .before in
+    let file = now (s .before .before .before .before .before .before .before .args .file) in
+    let small = s .before .before .before .before .before .before .before .pre in
+    let op = s .before .opcode .given .0 .0 in
+    let first = first-is (k .before .before .before .before .before .before .before .before) in
+    let second = second-is (k .before .before .before .before) in
+    let held =
+    made-whole op _ _ _
+    (operand-fits _ _ small (rowOf op .first) file (s .before .opcode .given .0 .1 .0 .at) first)
+    (operand-fits _ _ small (rowOf op .second) file (k .before .before .before .before .before .before .before .before .before .first .given .0 .1 .0 .at) second)
+    (operand-fits _ _ small (rowOf op .third) file (k .before .before .before .before .before .second .given .0 .1 .0 .at) (third-is k)) in
+    ap (λ (i : Instr). InstrRead.Instr i (k .before .third .given .0 .1 .0)) (c .instr-of .ensures ∙ held)
+    ∙ sym (an-instr (scope-of s) _ _ (opcode-is s) first second (third-is k))
 
 pub read-instr-spec : {M : Type 1} → statement M
 read-instr-spec =

@@ -1,10 +1,11 @@
 use mathlib.Core.Path.{sym, ap, subst, _∙_}
 use mathlib.Core.Bool.{true}
 use denote.Ref.{now}
-use Rattle.files.specs.Program.{within}
+use Rattle.opcodes.specs.Ranges.{within}
 use Rattle.files.specs.declared.Ended.{Ended}
 use Rattle.files.specs.Inside.{whyRead, ObjectsAre, objectsAfter, objectsBehind}
-use Rattle.files.proofs.Judging.{field-small, within-bounds}
+use Rattle.opcodes.proofs.Bounds.{within-bounds}
+use Rattle.files.proofs.Judging.{field-small}
 use borrow.Author.Needs.{needs}
 use Rattle.files.proofs.objects.objects_of.Statement.{statement}
 use Rattle.files.proofs.objects.objects_of.Tie as tie

@@ -1,9 +1,11 @@
 use denote.Ref.{now}
 use lib.Dec.{eqb}
-use Rattle.files.specs.Program.{within, isColor, hasColors}
+use Rattle.opcodes.specs.Ranges.{within, isColor}
+use Rattle.files.specs.Program.{hasColors}
 use mathlib.Core.Bool.{true}
 use mathlib.Core.Path.{sym, ap, _∙_}
-use Rattle.files.proofs.Judging.{within-bounds, field-small, color-small}
+use Rattle.opcodes.proofs.Bounds.{within-bounds, color-small}
+use Rattle.files.proofs.Judging.{field-small}
 use native.Mathlib.Omega.{arith}
 use Rattle.files.specs.declared.ObjectRead.{ObjectRead}
 use Rattle.files.specs.Inside.{whyRead}

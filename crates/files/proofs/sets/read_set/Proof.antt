@@ -3,7 +3,7 @@ use denote.Ref.{now}
 use native.Mathlib.Omega.{arith}
 use Rattle.numbers.proofs.Laws.{read-bounds}
 use Rattle.files.specs.declared.sets.SetRead.{SetRead}
-use Rattle.files.specs.Program.{within}
+use Rattle.opcodes.specs.Ranges.{within}
 use Rattle.files.specs.Reading.{afterMemberCount}
 use Rattle.files.specs.Inside.{whyRead}
 use Rattle.files.proofs.Judging.{good}

@@ -6,9 +6,11 @@ use native.Mathlib.Omega.{arith}
 use borrow.Author.Tests.{eq-eqb, ne-eqb}
 use Rattle.files.specs.declared.Ended.{Ended}
 use Rattle.files.specs.declared.sets.Sets.{Sets}
-use Rattle.files.specs.Program.{within, longest}
+use Rattle.opcodes.specs.Ranges.{within}
+use Rattle.files.specs.Program.{longest}
 use Rattle.files.specs.Inside.{whyRead, setsOf, setsAfter}
-use Rattle.files.proofs.Judging.{field-small, within-bounds}
+use Rattle.opcodes.proofs.Bounds.{within-bounds}
+use Rattle.files.proofs.Judging.{field-small}
 use borrow.Author.Needs.{needs}
 use Rattle.files.proofs.sets.sets_of.Statement.{statement}
 use Rattle.files.proofs.sets.sets_of.Tie as tie

@@ -1,8 +1,8 @@
 -- `check_of` meets its contract: a store of each kind has its own check, and nothing else has one.
 use mathlib.Core.Path.{sym, ap}
 use Prim.Native.Nat.{_-_}
-use Rattle.files.specs.declared.Instr.{Instr}
-use Rattle.files.specs.View.{view}
+use Rattle.opcodes.specs.declared.Instr.{Instr}
+use Rattle.opcodes.specs.View.{view}
 use Rattle.instrumenter.specs.Arrays.{checkFor}
 use Rattle.instrumenter.proofs.Cases.{no-store}
 use borrow.Author.Needs.{needs}

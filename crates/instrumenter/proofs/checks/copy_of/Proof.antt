@@ -2,7 +2,7 @@
 use mathlib.Core.Path.{sym, ap, _∙_}
 use Prim.Native.Nat.{ℕ}
 use lib.ListN.{getD}
-use Rattle.files.specs.declared.Instr.the-variants.{Jump, JumpIf}
+use Rattle.opcodes.specs.declared.Instr.the-variants.{Jump, JumpIf}
 use Rattle.instrumenter.specs.Instrumented.{moved}
 use Rattle.instrumenter.proofs.Cases.{copied-whole}
 use borrow.Author.Needs.{needs}

@@ -4,7 +4,7 @@ use Prim.Native.Nat.{_+_, _-_}
 use lib.ListN.{length}
 use mathlib.Core.Path.{_≡_, refl, _∙_, ap}
 use mathlib.Core.List.{List}
-use Rattle.files.specs.declared.Instr.{Instr}
+use Rattle.opcodes.specs.declared.Instr.{Instr}
 use native.Mathlib.Omega.{arith}
 use Rattle.instrumenter.specs.Arrays.{checkIn}
 use Rattle.instrumenter.proofs.Turns.{Placed, placed-none, placed-more}

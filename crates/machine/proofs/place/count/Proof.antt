@@ -1,7 +1,7 @@
 use Rattle.machine.proofs.Places.{counted}
 use Rattle.machine.specs.Stop.{counts}
-use Rattle.files.specs.declared.Instr.{Instr}
-use Rattle.files.specs.View.{view}
+use Rattle.opcodes.specs.declared.Instr.{Instr}
+use Rattle.opcodes.specs.View.{view}
 use mathlib.Core.Path.{sym, ap}
 use borrow.Author.Needs.{needs}
 use Rattle.machine.proofs.place.count.Statement.{statement}

@@ -1,6 +1,6 @@
 use Rattle.machine.proofs.Places.{blankLine}
 use lib.ListN.{getD}
-use Rattle.files.specs.View.{view}
+use Rattle.opcodes.specs.View.{view}
 use Prim.Native.Nat.{ℕ, _<_}
 use mathlib.Core.Path.{_∙_, ap, refl}
 use borrow.Author.Tests.{ltb-true, ltb-false}

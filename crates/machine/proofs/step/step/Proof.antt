@@ -1,7 +1,7 @@
 use denote.Ref.{now}
 use mathlib.Core.Path.{_≡_, subst}
 use lib.ListN.{length}
-use Rattle.files.specs.declared.Instr.{Instr}
+use Rattle.opcodes.specs.declared.Instr.{Instr}
 use Rattle.machine.specs.Turn.{held, Narrow}
 use Rattle.machine.proofs.Landing.{Here}
 use Rattle.machine.proofs.Parts.{stays, jumps}

@@ -6,12 +6,11 @@ use denote.Ref.{now}
 use native.Mathlib.Omega.{arith}
 use lib.ListN.{length, take, getD}
 use borrow.Author.Needs.{needs}
-use Rattle.files.specs.declared.Instr.{Instr}
+use Rattle.opcodes.specs.declared.Instr.{Instr}
 use Rattle.files.specs.declared.Line.{Line}
-use Rattle.files.specs.Program
 use Rattle.files.specs.Writing.{goodInstr, spellInstr}
 use Rattle.files.specs.Held.{tabulate, line}
-use Rattle.files.specs.Program.{scopeOver}
+use Rattle.opcodes.specs.Ranges.{Scope, scopeOver}
 use Rattle.writer.proofs.Lengths.{Adding, measure-good, measure-bad, was-good, was-bad, instr-length, add-none, add-more, add-stops, add-all, tabulate-more, tabulate-none, tabulate-all, map-take}
 use Prim.Native.Nat.{_≤_}
 use Rattle.writer.proofs.measuring.code_length.Statement.{statement}
@@ -55,7 +54,7 @@ enum-told : tie.Need-enum-told Inv-loop μ-loop
 enum-told c = search needs
 
 -- the instruction at hand is the next of those that are left
-here : (scope : Program.Scope) (code : List Line) (lines i total : ℕ) → i < lines
+here : (scope : Scope) (code : List Line) (lines i total : ℕ) → i < lines
     → Adding (goodInstr scope) (spellInstr (scope .version)) (tabulate (instr-of code) 0 lines) (tabulate (instr-of code) i (lines - i)) total
     → Adding (goodInstr scope) (spellInstr (scope .version)) (tabulate (instr-of code) 0 lines) (instr-of code i ∷ tabulate (instr-of code) (i + 1) (lines - (i + 1))) total
 here scope code lines i total h a =

@@ -8,9 +8,11 @@ use lib.ListN.{length, take}
 use lib.Dec.{leb}
 use borrow.Author.Tests.{le-leb, not-true, not-false}
 use Rattle.numbers.specs.Number.{width}
-use Rattle.files.specs.Program.{Program, Scope, scopeOver}
+use Rattle.opcodes.specs.Ranges.{Scope, scopeOver}
+use Rattle.files.specs.Program.{Program}
 use Rattle.files.specs.Writing.{spellAll, spellObject, spellInstr, spellFile, every, goodObject, goodInstr, scopeOf, goodProgram}
-use Rattle.files.proofs.SpelledObjects.{both-are, within-true as within-are}
+use Rattle.opcodes.proofs.Bounds.{within-true as within-are}
+use Rattle.files.proofs.SpelledObjects.{both-are}
 use Rattle.writer.specs.Inside.{shownIn, sayable}
 use Rattle.writer.proofs.Lengths.{Fits, measure-good, measure-bad, was-good, was-bad, both-then, object-length, instr-length, many-small}
 use Rattle.writer.proofs.Shown.{Counted, objects-count, lines-count, scope-is, bad-objects, bad-code, too-long, all-good, file-length, uncounted, counts-are}

@@ -8,12 +8,12 @@ use lib.ListN.{length}
 use borrow.Author.Tests.{le-leb, lt-leb}
 use Rattle.numbers.specs.Number.{width}
 use Rattle.numbers.proofs.Laws.{width-most}
-use Rattle.files.specs.declared.Operand.{Operand}
-use Rattle.files.specs.declared.Row.{Row}
+use Rattle.opcodes.specs.declared.Operand.{Operand}
+use Rattle.opcodes.specs.declared.Row.{Row}
 use Rattle.writer.specs.declared.measuring.Length.{Length}
-use Rattle.files.specs.declared.table.Parts.{Parts}
-use Rattle.files.specs.Table.{partsOf, rowOf}
-use Rattle.files.specs.Program.{Scope, present, lastOpcode, scopeOver}
+use Rattle.opcodes.specs.declared.Parts.{Parts}
+use Rattle.opcodes.specs.Table.{partsOf, rowOf}
+use Rattle.opcodes.specs.Ranges.{Scope, present, lastOpcode, scopeOver}
 use Rattle.files.specs.Writing.{spellIf, spellInstr, goodOperand}
 use Rattle.writer.specs.Inside.{measured}
 use Rattle.files.proofs.SpelledObjects.{both-are}

@@ -1,6 +1,6 @@
 -- `is_counted` meets its contract: its tests are the definition's.
 use borrow.Author.Tests.{le-leb, lt-leb}
-use Rattle.files.specs.Program.{within}
+use Rattle.opcodes.specs.Ranges.{within}
 use Rattle.files.specs.Writing.{both}
 use Rattle.writer.proofs.measuring.is_counted.Statement.{statement}
 use Rattle.writer.proofs.measuring.is_counted.Tie as tie

@@ -7,7 +7,7 @@ use native.Mathlib.Omega.{arith}
 use lib.ListN.{length, take, getD}
 use lib.Seq.{sets}
 use borrow.Author.Needs.{needs}
-use Rattle.files.specs.declared.Instr.{Instr}
+use Rattle.opcodes.specs.declared.Instr.{Instr}
 use Rattle.files.specs.declared.Line.{Line}
 use Rattle.files.specs.Writing.{spellInstr, spellAll}
 use Rattle.files.specs.Held.{tabulate, line}

@@ -8,10 +8,10 @@ use denote.Ref.{now}
 use lib.ListN.{length}
 use lib.Seq.{sets}
 use Rattle.numbers.specs.Number.{spell}
-use Rattle.files.specs.declared.Row.{Row}
-use Rattle.files.specs.declared.table.Parts.{Parts}
-use Rattle.files.specs.Table.{partsOf, rowOf}
-use Rattle.files.specs.Program.{present}
+use Rattle.opcodes.specs.declared.Row.{Row}
+use Rattle.opcodes.specs.declared.Parts.{Parts}
+use Rattle.opcodes.specs.Table.{partsOf, rowOf}
+use Rattle.opcodes.specs.Ranges.{present}
 use Rattle.files.specs.Writing.{spellIf}
 use Rattle.writer.proofs.Putting.{Put, then, fits-first, fits-then}
 use borrow.Author.Needs.{needs}

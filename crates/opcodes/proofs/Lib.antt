@@ -1,0 +1,11 @@
+-- What `opcodes` promises, and what carries it.
+--
+-- Each function is an equation with a definition of the table or of the ranges, for every number that it can be
+-- given; nothing is asked of a caller. The constant table of the code is the definition's, row by row
+-- (`table.row_of`).
+--
+-- About the definitions, for the crates above: an instruction and its parts are two forms of one thing
+-- (`Parting.parts-make`, `Parting.make-parts`); what a number that passes a test lies between, and that operands
+-- in their ranges are held whole (`Bounds`).
+pub mod Bounds
+pub mod Parting

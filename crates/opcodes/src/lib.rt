@@ -1,0 +1,68 @@
+// Opcodes: one table gives for each its operands and their ranges, for the reader, the writer and everybody
+// who takes an instruction apart.
+//
+// Every function answers for every number that it can be given.
+pub mod table; // table.rt: the rows, and which operands a version has
+pub mod ranges; // ranges.rt: the numbers that an operand may be
+pub mod making; // making.rt: an instruction made of its opcode and operands, and taken apart
+
+// What an operand of an instruction names, and so its range; `None` where there is no operand.
+pub enum Operand {
+    None,
+    Temporary,
+    Number,
+    Global,
+    Site,
+    Set,
+    Offset,
+    Target,
+    Color,
+}
+
+// The operands of an opcode, in their order in the file.
+pub struct Row {
+    pub first: Operand,
+    pub second: Operand,
+    pub third: Operand,
+}
+
+// An instruction with its operands as data. In version 2 a WRITE has no set: the field is 0.
+pub enum Instr {
+    End,
+    Set(u8, u32),
+    Place(u8, u16),
+    Add(u8, u8, u8),
+    Sub(u8, u8, u8),
+    Less(u8, u8, u8),
+    Load8(u8, u8),
+    Load32(u8, u8),
+    Put8(u16, u16, u8),
+    Put32(u16, u16, u8),
+    Write8(u8, u8, u16),
+    Write32(u8, u8, u16),
+    Jump(u16),
+    JumpIf(u8, u16),
+    Alloc(u8, u16, u8),
+    Free(u8),
+    In(u8),
+    Out(u8),
+    Check8(u8, u8),
+    Check32(u8, u8),
+    CheckPut8(u16, u16, u8),
+    CheckPut32(u16, u16, u8),
+}
+
+// An instruction's opcode and its operands in the order of the file, 0 where there is none.
+pub struct Parts {
+    pub op: u32,
+    pub x: u32,
+    pub y: u32,
+    pub z: u32,
+}
+
+// What the operands of an instruction may name, beside the objects' kinds.
+pub struct Scope {
+    pub version: u8,
+    pub sets: usize,
+    pub lines: usize,
+}
