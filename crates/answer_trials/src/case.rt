@@ -67,7 +67,7 @@ fn put_word(bytes: &mut [u8], i: usize, value: u32) {
 }
 
 // Puts an answer's words one after the other.
-pub fn put_words(bytes: &mut [u8], words: [u32; 8]) {
+pub(crate) fn put_words(bytes: &mut [u8], words: [u32; 8]) {
     let mut i = 0;
     while i < 8 {
         put_word(bytes, i, words[i]);
@@ -76,7 +76,7 @@ pub fn put_words(bytes: &mut [u8], words: [u32; 8]) {
 }
 
 // The case of a header, whose first word holds kind and fill.
-pub fn case_in(header: &[u8]) -> Case {
+pub(crate) fn case_in(header: &[u8]) -> Case {
     let first = word_at(header, 0);
     Case {
         kind: low(first),
@@ -92,7 +92,7 @@ pub fn case_in(header: &[u8]) -> Case {
 }
 
 // Fills the front of a buffer with so many bytes of standard input, or says that the input ended before.
-pub fn read_front(buffer: &mut [u8], count: u32) -> bool {
+pub(crate) fn read_front(buffer: &mut [u8], count: u32) -> bool {
     let wanted = bytes_within(count, buffer);
     if wanted == 0 {
         return true;
@@ -115,7 +115,7 @@ fn bytes_of(inputs: u32) -> u32 {
 }
 
 // Reads so many inputs, or says that the input ended before them.
-pub fn read_inputs(inputs: u32, numbers: &mut [u32]) -> bool {
+pub(crate) fn read_inputs(inputs: u32, numbers: &mut [u32]) -> bool {
     let mut bytes = io::buffer();
     let is_whole = read_front(&mut bytes, bytes_of(inputs));
     take_words(numbers, &bytes);

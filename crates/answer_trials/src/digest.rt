@@ -8,7 +8,7 @@ const FACTOR: u64 = 16777619;
 pub const EMPTY: u32 = 1;
 
 // The digest with one number more.
-pub fn joined(held: u32, number: u32) -> u32 {
+pub(crate) fn joined(held: u32, number: u32) -> u32 {
     ((held as u64 * FACTOR + number as u64) % MODULUS) as u32
 }
 
@@ -16,7 +16,7 @@ fn joined_byte(held: u32, byte: u8) -> u32 {
     joined(held, byte as u32)
 }
 
-pub fn digest_bytes(bytes: &[u8]) -> u32 {
+pub(crate) fn digest_bytes(bytes: &[u8]) -> u32 {
     let mut held = EMPTY;
     let mut i = 0;
     while i < bytes.len() {
@@ -26,7 +26,7 @@ pub fn digest_bytes(bytes: &[u8]) -> u32 {
     held
 }
 
-pub fn digest_numbers(numbers: &[u32]) -> u32 {
+pub(crate) fn digest_numbers(numbers: &[u32]) -> u32 {
     let mut held = EMPTY;
     let mut i = 0;
     while i < numbers.len() {

@@ -24,7 +24,7 @@ fn too_small(room: u32) -> [u32; 8] {
     [10, 0, 0, 0, 0, room, 0, 0]
 }
 
-pub fn read_one_number(case: Case, file: &[u8]) -> [u32; 8] {
+pub(crate) fn read_one_number(case: Case, file: &[u8]) -> [u32; 8] {
     let at = case.cursor as usize;
     match numbers::read_number(file, Cursor { at }) {
         Read::Number(value, next) => [0, 0, value, word(next.at), 0, 0, 0, 0],
@@ -45,14 +45,14 @@ fn write_number_in(room: &mut [u8], cursor: u32, n: u32) -> [u32; 8] {
     }
 }
 
-pub fn write_one_number(case: Case) -> [u32; 8] {
+pub(crate) fn write_one_number(case: Case) -> [u32; 8] {
     let fill = case.fill;
     let mut room = filled_room(fill);
     let length = bytes_within(case.room, &room);
     write_number_in(&mut room[..length], case.cursor, case.limit)
 }
 
-pub fn read_version_1(file: &[u8]) -> [u32; 8] {
+pub(crate) fn read_version_1(file: &[u8]) -> [u32; 8] {
     let p = files::read_routine(file);
     let outcome = p.outcome;
     match outcome {
@@ -70,7 +70,7 @@ pub fn read_version_1(file: &[u8]) -> [u32; 8] {
     }
 }
 
-pub fn read_version_2(file: &[u8]) -> [u32; 8] {
+pub(crate) fn read_version_2(file: &[u8]) -> [u32; 8] {
     let p = files::read_program(file);
     let outcome = p.outcome;
     match outcome {
@@ -104,7 +104,7 @@ fn write_file_in(file: &[u8], room: &mut [u8]) -> [u32; 8] {
     }
 }
 
-pub fn write_version_2(case: Case, file: &[u8]) -> [u32; 8] {
+pub(crate) fn write_version_2(case: Case, file: &[u8]) -> [u32; 8] {
     let fill = case.fill;
     let mut room = filled_room(fill);
     let length = bytes_within(case.room, &room);
@@ -116,7 +116,7 @@ fn colors_digest(colors: [u8; 400], objects: usize) -> u32 {
     digest_bytes(&colors[..count])
 }
 
-pub fn color(file: &[u8]) -> [u32; 8] {
+pub(crate) fn color(file: &[u8]) -> [u32; 8] {
     let p = read_colored(file);
     let outcome = p.outcome;
     match outcome {
@@ -138,7 +138,7 @@ fn instrument_in(file: &[u8], room: &mut [u8]) -> [u32; 8] {
     }
 }
 
-pub fn instrument_file(case: Case, file: &[u8]) -> [u32; 8] {
+pub(crate) fn instrument_file(case: Case, file: &[u8]) -> [u32; 8] {
     let fill = case.fill;
     let mut room = filled_room(fill);
     let length = bytes_within(case.room, &room);

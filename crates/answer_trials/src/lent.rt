@@ -4,26 +4,26 @@ ghost use mathlib.Core.Path.{_≡_};
 ghost use lib.ListN.{length};
 ghost use Rattle.io.specs.Counts.{Counts};
 
-pub fn filled_room(fill: u8) -> [u8; 40960]
+pub(crate) fn filled_room(fill: u8) -> [u8; 40960]
     ensures { λ r. ⌜ 40960 ≡ length r ⌝ }
 {
     [fill; 40960]
 }
 
-pub fn filled_memory(fill: u8) -> [u8; 57408]
+pub(crate) fn filled_memory(fill: u8) -> [u8; 57408]
     ensures { λ r. ⌜ 57408 ≡ length r ⌝ }
 {
     [fill; 57408]
 }
 
-pub fn filled_table(fill: u8) -> [u8; 7232]
+pub(crate) fn filled_table(fill: u8) -> [u8; 7232]
     ensures { λ r. ⌜ 7232 ≡ length r ⌝ }
 {
     [fill; 7232]
 }
 
 // A number for the output holds the fill in all four of its bytes.
-pub fn filled_numbers(fill: u8) -> [u32; 1024]
+pub(crate) fn filled_numbers(fill: u8) -> [u32; 1024]
     ensures { λ r. ⌜ 1024 ≡ length r ⌝ }
 {
     let number = fill as u32 * 16843009;
@@ -32,7 +32,7 @@ pub fn filled_numbers(fill: u8) -> [u32; 1024]
 
 // How many bytes at the front of an array a case asks for. The protocol keeps it within the array.
 
-pub fn bytes_within(n: u32, bytes: &[u8]) -> usize
+pub(crate) fn bytes_within(n: u32, bytes: &[u8]) -> usize
     ensures { λ r. ⌜ Counts r (now (bytes .entry)) ⌝ }
 {
     let count = n as usize;
@@ -44,7 +44,7 @@ pub fn bytes_within(n: u32, bytes: &[u8]) -> usize
 }
 
 // The same for numbers.
-pub fn numbers_within(n: u32, numbers: &[u32]) -> usize
+pub(crate) fn numbers_within(n: u32, numbers: &[u32]) -> usize
     ensures { λ r. ⌜ Counts r (now (numbers .entry)) ⌝ }
 {
     let count = n as usize;
@@ -56,11 +56,11 @@ pub fn numbers_within(n: u32, numbers: &[u32]) -> usize
 }
 
 // A length or place as a word. None of them reaches 2^32.
-pub fn word(n: usize) -> u32 {
+pub(crate) fn word(n: usize) -> u32 {
     (n % 4294967296) as u32
 }
 
 // A number of a record as a word. None of them reaches 2^32.
-pub fn low_word(n: u64) -> u32 {
+pub(crate) fn low_word(n: u64) -> u32 {
     (n % 4294967296) as u32
 }

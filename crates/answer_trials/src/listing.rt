@@ -108,7 +108,7 @@ fn instructions(held: u32, version: u8, code: [Line; 2000], count: usize) -> u32
 }
 
 // Version 1: objects, sets, instructions.
-pub fn digest_of_version_1(p: Loaded) -> u32 {
+pub(crate) fn digest_of_version_1(p: Loaded) -> u32 {
     let start = joined(EMPTY, 1);
     let named = objects(start, 1, &p.kinds, &p.sizes, &p.colors, p.objects);
     let listed = sets(named, &p.ends, &p.members, p.sets);
@@ -117,7 +117,7 @@ pub fn digest_of_version_1(p: Loaded) -> u32 {
 }
 
 // Version 2: objects with their colors, instructions.
-pub fn digest_of_version_2(p: Loaded) -> u32 {
+pub(crate) fn digest_of_version_2(p: Loaded) -> u32 {
     let start = joined(EMPTY, 2);
     let named = objects(start, 2, &p.kinds, &p.sizes, &p.colors, p.objects);
     let code = p.code;

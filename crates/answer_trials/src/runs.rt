@@ -61,7 +61,7 @@ fn run_in(
     recorded(run, memory, table, room)
 }
 
-pub fn run_case(case: Case, file: &[u8], input: &[u32]) -> [u32; 8] {
+pub(crate) fn run_case(case: Case, file: &[u8], input: &[u32]) -> [u32; 8] {
     let fill = case.fill;
     let mut memory = filled_memory(fill);
     let mut table = filled_table(fill);

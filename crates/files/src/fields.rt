@@ -15,7 +15,7 @@ ghost use Rattle.files.specs.Reading.{judged, colorAt, sizeAt, operandAt
 ghost use Rattle.files.specs.Inside.{whyRead, isMember, memberAt};
 
 // Why a number was not read.
-pub fn why_read(read: Read) -> Refusal
+pub(crate) fn why_read(read: Read) -> Refusal
     ensures { λ r. ⌜ r ≡ whyRead read ⌝ }
 {
     match read {
@@ -28,7 +28,7 @@ pub fn why_read(read: Read) -> Refusal
 }
 
 // A number from `low` to `high`, or a refusal at its first byte.
-pub fn ranged(file: &[u8], from: Cursor, number: u8, low: u32, high: u32) -> Read
+pub(crate) fn ranged(file: &[u8], from: Cursor, number: u8, low: u32, high: u32) -> Read
     ensures { λ r. ⌜ r ≡ judged number (within low high) (now (file .entry)) (from .at) ⌝ }
 {
     let place = from.at;
@@ -43,7 +43,7 @@ pub fn ranged(file: &[u8], from: Cursor, number: u8, low: u32, high: u32) -> Rea
 }
 
 // The color at the end of an object; a file of version 1 has none.
-pub fn color_at(file: &[u8], from: Cursor, version: u8) -> Read
+pub(crate) fn color_at(file: &[u8], from: Cursor, version: u8) -> Read
     ensures { λ r. ⌜ r ≡ colorAt version (now (file .entry)) (from .at) ⌝ }
 {
     if version != 2 {
@@ -61,7 +61,7 @@ pub fn color_at(file: &[u8], from: Cursor, version: u8) -> Read
 }
 
 // The size of an object; a heap site has none.
-pub fn size_at(file: &[u8], from: Cursor, kind: u32) -> Read
+pub(crate) fn size_at(file: &[u8], from: Cursor, kind: u32) -> Read
     ensures { λ r. ⌜ r ≡ sizeAt (now (file .entry)) kind (from .at) ⌝ }
 {
     if kind != 0 {
@@ -79,7 +79,7 @@ fn is_member(objects: usize, low: usize, n: u32) -> bool
 }
 
 // A member of a set, which is not below `low`, or a refusal at its first byte.
-pub fn member_at(file: &[u8], from: Cursor, objects: usize, low: usize) -> Read
+pub(crate) fn member_at(file: &[u8], from: Cursor, objects: usize, low: usize) -> Read
     ensures { λ r. ⌜ r ≡ memberAt objects low (now (file .entry)) (from .at) ⌝ }
 {
     let place = from.at;
@@ -94,7 +94,13 @@ pub fn member_at(file: &[u8], from: Cursor, objects: usize, low: usize) -> Read
 }
 
 // An operand by its kind; one that does not stand in the file is 0.
-pub fn operand_at(file: &[u8], from: Cursor, kinds: &[u8], scope: Scope, kind: Operand) -> Read
+pub(crate) fn operand_at(
+    file: &[u8],
+    from: Cursor,
+    kinds: &[u8],
+    scope: Scope,
+    kind: Operand,
+) -> Read
     ensures { λ r. ⌜ r ≡ operandAt (scopeOver scope (now (kinds .entry))) kind (now (file .entry)) (from .at) ⌝ }
 {
     if !is_present(scope.version, kind) {

@@ -123,7 +123,7 @@ fn most_code(version: u8) -> u32
 }
 
 // The count of instructions, and the instructions.
-pub fn code_of(file: &[u8], from: Cursor, kinds: &[u8], version: u8, sets: usize) -> Code
+pub(crate) fn code_of(file: &[u8], from: Cursor, kinds: &[u8], version: u8, sets: usize) -> Code
     requires { ⌜ (length (now kinds) ≤ 400) × (sets ≤ 400) ⌝ }
     ensures { λ r. ⌜ CodeIs (codeOf version (now (kinds .entry)) sets (now (file .entry)) (from .at)) r ⌝ }
 {

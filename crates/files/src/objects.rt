@@ -114,7 +114,7 @@ fn no_objects(q: Refusal) -> Objects
 }
 
 // The version, the count of objects, and the objects.
-pub fn objects_of(file: &[u8], version: u8) -> Objects
+pub(crate) fn objects_of(file: &[u8], version: u8) -> Objects
     ensures { λ r. ⌜ ObjectsAre (objectsOf version (now (file .entry))) r ⌝ }
 {
     let version_read = ranged(file, Cursor { at: 0 }, 4, version as u32, version as u32);

@@ -88,7 +88,7 @@ fn longest_file(version: u8) -> usize
 }
 
 // A file of a version: its parts from left to right, and nothing behind them.
-pub fn read_file(file: &[u8], version: u8) -> Loaded
+pub(crate) fn read_file(file: &[u8], version: u8) -> Loaded
     ensures { λ r. ⌜ r ≡ held (readFile version (now (file .entry))) ⌝ }
 {
     if longest_file(version) < file.len() {

@@ -130,7 +130,7 @@ fn no_sets(ended: Ended) -> Sets
 }
 
 // The count of sets, and the sets; a file of version 2 has neither.
-pub fn sets_of(file: &[u8], from: Cursor, version: u8, objects: usize) -> Sets
+pub(crate) fn sets_of(file: &[u8], from: Cursor, version: u8, objects: usize) -> Sets
     requires { ⌜ (length (now file) ≤ longest version) × (objects ≤ 400) ⌝ }
     ensures { λ r. ⌜ SetsAre (setsOf version objects (now (file .entry)) (from .at)) r ⌝ }
 {

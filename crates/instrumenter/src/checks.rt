@@ -74,7 +74,7 @@ fn place_of(t: u16, places: &[u16]) -> u16
 }
 
 // The copy of an instruction: a jump has its new target, and a WRITE has no set.
-pub fn copy_of(i: Instr, places: &[u16]) -> Instr
+pub(crate) fn copy_of(i: Instr, places: &[u16]) -> Instr
     ensures { λ r. ⌜ r ≡ moved (λ t. getD (now (places .entry)) t 0) i ⌝ }
 {
     match i {
@@ -87,7 +87,7 @@ pub fn copy_of(i: Instr, places: &[u16]) -> Instr
 }
 
 // The check that an unsafe instruction has before it.
-pub fn check_before<'a>(
+pub(crate) fn check_before<'a>(
     i: Instr,
     sizes: &'a [u16; 400],
     colors: &'a [u8],

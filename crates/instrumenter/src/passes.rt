@@ -27,7 +27,7 @@ fn span_of(before: Before) -> u16
 }
 
 // The new place of each instruction: that of its check, or else of its copy.
-pub fn new_places<'a>(
+pub(crate) fn new_places<'a>(
     lines: usize,
     code: [Line; 2000],
     sizes: &'a [u16; 400],
@@ -52,7 +52,7 @@ pub fn new_places<'a>(
 }
 
 // The same instructions in order, each behind its check, with the new targets.
-pub fn guarded_code<'a>(
+pub(crate) fn guarded_code<'a>(
     lines: usize,
     code: [Line; 2000],
     places: &'a [u16],

@@ -67,7 +67,7 @@ fn complain(i: usize) {
 
 // Puts the arguments behind the program's name into the room and answers how many there are; or says
 // what is wrong.
-pub fn read_inputs(room: &mut [u32]) -> Inputs {
+pub(crate) fn read_inputs(room: &mut [u32]) -> Inputs {
     let count = os::arg_count();
     let most = room.len();
     let mut i = 1;

@@ -11,7 +11,7 @@ fn print_blank() {
 }
 
 // Of a refusal the number and the place, of a run all five.
-pub fn print_line(number: u64, place: u64, steps: u64, out: u64, taken: u64) {
+pub(crate) fn print_line(number: u64, place: u64, steps: u64, out: u64, taken: u64) {
     io::print_decimal(STDOUT_FILENO, number);
     print_blank();
     io::print_decimal(STDOUT_FILENO, place);
@@ -32,7 +32,7 @@ fn print_output(n: u32) {
 }
 
 // The first so many numbers of the room, one to a line.
-pub fn print_outputs(room: &[u32], out: usize) {
+pub(crate) fn print_outputs(room: &[u32], out: usize) {
     let mut i = 0;
     while i < room.len() && i < out {
         print_output(room[i]);

@@ -160,7 +160,7 @@ fn is_counted(count: usize, lines: usize) -> bool
 }
 
 // The whole file: the version, the counts, the objects and the instructions, no longer than a file may be.
-pub fn file_length(
+pub(crate) fn file_length(
     count: usize,
     lines: usize,
     kinds: [u8; 400],

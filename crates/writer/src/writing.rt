@@ -103,7 +103,7 @@ fn put_code(room: &mut [u8], at: usize, lines: usize, code: [Line; 2000]) -> usi
 }
 
 // The whole file, which fits: its bytes from the first of the room on.
-pub fn put_file(
+pub(crate) fn put_file(
     room: &mut [u8],
     count: usize,
     lines: usize,
