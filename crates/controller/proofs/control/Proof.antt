@@ -6,50 +6,37 @@ use Rattle.machine.specs.Turn.{answered, lentOf}
 use Rattle.controller.proofs.Controlled.{wrong-memory, wrong-table}
 use Rattle.controller.proofs.control.Statement.{statement}
 use Rattle.controller.proofs.control.Tie as tie
-use Rattle.controller.proofs.control.Reads as reads
-use Rattle.controller.proofs.control.Lts as lts
-use Rattle.controller.proofs.instrument_and_run.Reads as instrument-and-run-reads
-use Rattle.controller.proofs.refused.Reads as refused-reads
 
--- src/lib.rt:84:9
 refused-requires : tie.Need-refused-requires
 refused-requires c κs = search needs
 
--- src/lib.rt:84:9
 returns : tie.Need-returns
 returns c =
     let a = c .before .before .before .before .before .before .before .args in
     ap (λ (r : Run). answered r (lentOf (now (a .memory)) (now (a .table)) (now (a .room)))) (c .refused .ensures)
     ∙ sym (wrong-memory (now (a .file)) (now (a .input)) (a .limit) (now (a .memory)) (now (a .table)) (now (a .room)) (c .before .if1 .taken))
 
--- src/lib.rt:87:9
 refused-requires-2 : tie.Need-refused-requires-2
 refused-requires-2 c κs = search needs
 
--- src/lib.rt:87:9
 returns-2 : tie.Need-returns-2
 returns-2 c =
     let a = c .before .before .before .before .before .before .before .before .args in
     ap (λ (r : Run). answered r (lentOf (now (a .memory)) (now (a .table)) (now (a .room)))) (c .refused2 .ensures)
     ∙ sym (wrong-table (now (a .file)) (now (a .input)) (a .limit) (now (a .memory)) (now (a .table)) (now (a .room)) (c .before .before .if1 .left) (c .before .if2 .taken))
 
--- src/lib.rt:89:5
 instrument-and-run-requires : tie.Need-instrument-and-run-requires
 instrument-and-run-requires c κs = search needs
 
--- src/lib.rt:69:1
 same-length : tie.Need-same-length
 same-length c = search needs
 
--- src/lib.rt:69:1
 same-length-2 : tie.Need-same-length-2
 same-length-2 c = search needs
 
--- src/lib.rt:69:1
 same-length-3 : tie.Need-same-length-3
 same-length-3 c = search needs
 
--- src/lib.rt:69:1
 returns-3 : tie.Need-returns-3
 returns-3 c = search needs
 

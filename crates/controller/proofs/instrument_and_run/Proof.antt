@@ -9,43 +9,28 @@ use Rattle.controller.specs.Control.{whyNot}
 use Rattle.controller.proofs.Controlled.{refused-so, written-so}
 use Rattle.controller.proofs.instrument_and_run.Statement.{statement}
 use Rattle.controller.proofs.instrument_and_run.Tie as tie
-use Rattle.controller.proofs.instrument_and_run.Reads as reads
-use Rattle.controller.proofs.instrument_and_run.Lts as lts
-use Rattle.controller.proofs.blank_room.Reads as blank-room-reads
-use Rattle.controller.proofs.refused.Reads as refused-reads
-use Rattle.instrumenter.proofs.instrument.Reads as instrument-reads
-use Rattle.machine.proofs.run_file.Reads as run-file-reads
-use Rattle.controller.proofs.why_not.Reads as why-not-reads
 
--- src/lib.rt:59:20
 blank-room-requires : tie.Need-blank-room-requires
 blank-room-requires c κs = search needs
 
--- src/lib.rt:60:35
 slice-aggregate-instrument : tie.Need-slice-aggregate-instrument
 slice-aggregate-instrument c = search needs
 
--- src/lib.rt:60:9
 instrument-requires : tie.Need-instrument-requires
 instrument-requires c κs = search needs
 
--- src/lib.rt:61:31
 enum-known-answer : tie.Need-enum-known-answer
 enum-known-answer c = search needs
 
--- src/lib.rt:62:24
 enum-told : tie.Need-enum-told
 enum-told c = search needs
 
--- src/lib.rt:62:24
 why-not-requires : tie.Need-why-not-requires
 why-not-requires c κs = search needs
 
--- src/lib.rt:62:9
 refused-requires : tie.Need-refused-requires
 refused-requires c κs = search needs
 
--- src/lib.rt:62:9
 returns : tie.Need-returns
 returns c =
     let s = c .before .before .before .before .before .before .before .before .before .before .before .before .before in
@@ -56,7 +41,6 @@ returns c =
     ∙ sym (refused-so (now (s .args .file)) (now (s .args .input)) (s .args .limit) (now (s .args .memory)) (now (s .args .table)) (now (s .args .room))
     (s .pre .0) (s .pre .1) (c .before .before .before .before .before .before .before .blank-room .result) (c .before .before .before .before .before .before .before .blank-room .ensures) _ (sym (called .0) ∙ told))
 
--- src/lib.rt:64:9
 array-share-prefix-code : tie.Need-array-share-prefix-code
 array-share-prefix-code c =
     let s = c .before .before .before .before .before .before .before .before .before .before .before .before in
@@ -64,27 +48,21 @@ array-share-prefix-code c =
     written-so (now (s .args .file)) (now (s .args .input)) (s .args .limit) (now (s .args .memory)) (now (s .args .table)) (now (s .args .room))
     (s .pre .0) (s .pre .1) (c .before .before .before .before .before .before .blank-room .result) (c .before .before .before .before .before .before .blank-room .ensures) _ _ (sym (called .0) ∙ c .before .answer .given .1) (called .1) .0
 
--- src/lib.rt:64:9
 slice-aggregate-run-file : tie.Need-slice-aggregate-run-file
 slice-aggregate-run-file c = sym (length-take-le _ _ (array-share-prefix-code (c .before)))
 
--- src/lib.rt:64:5
 run-file-requires : tie.Need-run-file-requires
 run-file-requires c κs = search needs
 
--- src/lib.rt:48:1
 same-length : tie.Need-same-length
 same-length c = search needs
 
--- src/lib.rt:48:1
 same-length-2 : tie.Need-same-length-2
 same-length-2 c = search needs
 
--- src/lib.rt:48:1
 same-length-3 : tie.Need-same-length-3
 same-length-3 c = search needs
 
--- src/lib.rt:48:1
 returns-2 : tie.Need-returns-2
 returns-2 c =
     let s = c .before .before .before .before .before .before .before .before .before .before .before .before .before .before .before .before .before .before .before .before .before .before .before in

@@ -4,32 +4,22 @@ use Rattle.machine.specs.Running.{Answer}
 use Rattle.controller.specs.Control.{fiveOf}
 use Rattle.controller.proofs.toltjebrim_control.Statement.{statement}
 use Rattle.controller.proofs.toltjebrim_control.Tie as tie
-use Rattle.controller.proofs.toltjebrim_control.Reads as reads
-use Rattle.controller.proofs.toltjebrim_control.Lts as lts
-use Rattle.controller.proofs.control.Reads as control-reads
-use Rattle.controller.proofs.numbers_of.Reads as numbers-of-reads
 
--- src/lib.rt:160:9
 control-requires : tie.Need-control-requires
 control-requires c κs = search needs
 
--- src/lib.rt:161:16
 numbers-of-requires : tie.Need-numbers-of-requires
 numbers-of-requires c κs = search needs
 
--- src/lib.rt:147:1
 same-length : tie.Need-same-length
 same-length c = search needs
 
--- src/lib.rt:147:1
 same-length-2 : tie.Need-same-length-2
 same-length-2 c = search needs
 
--- src/lib.rt:147:1
 same-length-3 : tie.Need-same-length-3
 same-length-3 c = search needs
 
--- src/lib.rt:147:1
 returns : tie.Need-returns
 returns c =
     let whole = c .before .before .before .before .before .before .before .control .ensures in

@@ -3,22 +3,16 @@ use mathlib.Core.Path.{sym, ap}
 use Rattle.controller.specs.Control.{whyNot}
 use Rattle.controller.proofs.why_not.Statement.{statement}
 use Rattle.controller.proofs.why_not.Tie as tie
-use Rattle.controller.proofs.why_not.Reads as reads
-use Rattle.controller.proofs.why_not.Lts as lts
 
--- src/lib.rt:35:37
 enum-told : tie.Need-enum-told
 enum-told c = search needs
 
--- src/lib.rt:36:31
 enum-known-answer : tie.Need-enum-known-answer
 enum-known-answer c = search needs
 
--- src/lib.rt:31:1
 returns : tie.Need-returns
 returns c = sym (ap whyNot (c .enum-told .given .1))
 
--- src/lib.rt:31:1
 returns-2 : tie.Need-returns-2
 returns-2 c = search needs
 

@@ -4,65 +4,46 @@ use denote.Ref.{now}
 use borrow.Author.Needs.{needs}
 use Rattle.machine.proofs.run_file.Statement.{statement}
 use Rattle.machine.proofs.run_file.Tie as tie
-use Rattle.machine.proofs.run_file.Reads as reads
-use Rattle.machine.proofs.run_file.Lts as lts
-use Rattle.files.proofs.read_program.Reads as read-program-reads
-use Rattle.machine.proofs.start.refused.Reads as refused-reads
-use Rattle.machine.proofs.start.run_loaded.Reads as run-loaded-reads
 
--- src/lib.rt:68:9
 refused-requires : tie.Need-refused-requires
 refused-requires c κs = search needs
 
--- src/lib.rt:68:9
 returns : tie.Need-returns
 returns c = let a = c .before .before .before .before .before .before .before .args in wrong-memory (now (a .file)) (now (a .input)) (a .limit) (lentOf (now (a .memory)) (now (a .table)) (now (a .room))) (c .before .if1 .taken) (c .refused .ensures)
 
--- src/lib.rt:74:9
 refused-requires-2 : tie.Need-refused-requires-2
 refused-requires-2 c κs = search needs
 
--- src/lib.rt:74:9
 returns-2 : tie.Need-returns-2
 returns-2 c = let a = c .before .before .before .before .before .before .before .before .args in wrong-table (now (a .file)) (now (a .input)) (a .limit) (lentOf (now (a .memory)) (now (a .table)) (now (a .room))) (c .before .before .if1 .left) (c .before .if2 .taken) (c .refused2 .ensures)
 
--- src/lib.rt:79:9
 read-program-requires : tie.Need-read-program-requires
 read-program-requires c κs = search needs
 
--- src/lib.rt:82:26
 enum-known-outcome : tie.Need-enum-known-outcome
 enum-known-outcome c = search needs
 
--- src/lib.rt:82:34
 refused-requires-3 : tie.Need-refused-requires-3
 refused-requires-3 c κs = search needs
 
--- src/lib.rt:83:65
 enum-told : tie.Need-enum-told
 enum-told c = search needs
 
--- src/lib.rt:83:27
 run-loaded-requires : tie.Need-run-loaded-requires
 run-loaded-requires c κs = let a = c .before .before .before .before .before .before .before .before .before .before .before .before .before .args in runnable (now (a .file)) (now (a .input)) (a .limit) (lentOf (now (a .memory)) (now (a .table)) (now (a .room))) (c .before .before .before .before .before .before .before .if1 .left) (c .before .before .before .before .before .before .if2 .left) (c .before .before .before .before .before .read-program .ensures)
 
--- src/lib.rt:57:1
 returns-3 : tie.Need-returns-3
 returns-3 c = let a = c .before .before .before .before .before .before .before .before .before .before .before .before .args in refuses (now (a .file)) (now (a .input)) (a .limit) (lentOf (now (a .memory)) (now (a .table)) (now (a .room))) (c .before .before .before .before .before .before .if1 .left) (c .before .before .before .before .before .if2 .left) (c .before .before .before .before .read-program .ensures) (c .before .before .outcome .given .1) (c .refused3 .ensures)
 
--- src/lib.rt:57:1
 same-length : tie.Need-same-length
 same-length c = search needs
 
--- src/lib.rt:57:1
 same-length-2 : tie.Need-same-length-2
 same-length-2 c = search needs
 
--- src/lib.rt:57:1
 same-length-3 : tie.Need-same-length-3
 same-length-3 c = search needs
 
--- src/lib.rt:57:1
 returns-4 : tie.Need-returns-4
 returns-4 c = let a = c .before .before .before .before .before .before .before .before .before .before .before .before .before .before .before .before .before .before .before .before .args in runs-whole (now (a .file)) (now (a .input)) (a .limit) (lentOf (now (a .memory)) (now (a .table)) (now (a .room))) (c .before .before .before .before .before .before .before .before .before .before .before .before .before .before .if1 .left) (c .before .before .before .before .before .before .before .before .before .before .before .before .before .if2 .left) (c .before .before .before .before .before .before .before .before .before .before .before .before .read-program .ensures) (c .before .before .before .before .before .before .before .before .before .before .enum-told .given .1) (c .before .before .before .before .before .before .run-loaded .ensures)
 

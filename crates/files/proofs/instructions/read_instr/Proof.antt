@@ -14,7 +14,6 @@ use Rattle.files.proofs.OneInstr.{no-opcode, no-first, no-second, no-th
 use borrow.Author.Needs.{needs}
 use Rattle.files.proofs.instructions.read_instr.Statement.{statement}
 use Rattle.files.proofs.instructions.read_instr.Tie as tie
-use Rattle.files.proofs.instructions.read_instr.Reads as reads
 
 last-opcode-requires : tie.Need-last-opcode-requires
 last-opcode-requires c κs = search needs

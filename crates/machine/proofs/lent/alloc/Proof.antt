@@ -4,119 +4,88 @@ use denote.Ref.{now}
 use borrow.Author.Needs.{needs}
 use Rattle.machine.proofs.lent.alloc.Statement.{statement}
 use Rattle.machine.proofs.lent.alloc.Tie as tie
-use Rattle.machine.proofs.lent.alloc.Reads as reads
-use Rattle.machine.proofs.lent.alloc.Lts as lts
-use Rattle.heap.proofs.making.alloc.Reads as alloc-reads
-use Rattle.machine.proofs.lent.color_of.Reads as color-of-reads
-use Rattle.machine.proofs.temps.becomes.Reads as becomes-reads
-use Rattle.machine.proofs.temps.value.Reads as value-reads
 
--- src/lent.rt:143:9
 value-requires : tie.Need-value-requires
 value-requires c κs = search needs
 
--- src/lent.rt:144:9
 color-of-requires : tie.Need-color-of-requires
 color-of-requires c κs = search needs
 
--- src/lent.rt:145:9
 alloc-requires : tie.Need-alloc-requires
 alloc-requires c κs = search needs
 
--- src/lent.rt:147:47
 enum-told : tie.Need-enum-told
 enum-told c = search needs
 
--- src/lent.rt:148:43
 enum-told-2 : tie.Need-enum-told-2
 enum-told-2 c = search needs
 
--- src/lent.rt:149:40
 enum-told-3 : tie.Need-enum-told-3
 enum-told-3 c = search needs
 
--- src/lent.rt:149:32
 becomes-requires : tie.Need-becomes-requires
 becomes-requires c κs = search needs
 
--- src/lent.rt:150:26
 enum-known-answer : tie.Need-enum-known-answer
 enum-known-answer c = search needs
 
--- src/lent.rt:150:35
 becomes-requires-2 : tie.Need-becomes-requires-2
 becomes-requires-2 c κs = search needs
 
--- src/lent.rt:127:1
 same-length : tie.Need-same-length
 same-length c = search needs
 
--- src/lent.rt:127:1
 same-length-2 : tie.Need-same-length-2
 same-length-2 c = search needs
 
--- src/lent.rt:127:1
 same-length-3 : tie.Need-same-length-3
 same-length-3 c = search needs
 
--- src/lent.rt:127:1
 returns : tie.Need-returns
 returns c = let s = c .before .before .before .before .before .before in
     let k = s .before .before .before .before .before .before .before .before .before .before in
     let a = k .args in
     allocates (a .from) (now (a .memory)) (now (a .table)) (now (a .temps)) (a .d) (a .g) (s .before .before .before .before .value .ensures) (s .before .before .before .color-of .ensures) (c .enum-told .given .1) (s .alloc .ensures .0) (s .alloc .ensures .1 .0) (s .alloc .ensures .1 .1) (refl) (refl)
 
--- src/lent.rt:127:1
 same-length-4 : tie.Need-same-length-4
 same-length-4 c = search needs
 
--- src/lent.rt:127:1
 same-length-5 : tie.Need-same-length-5
 same-length-5 c = search needs
 
--- src/lent.rt:127:1
 same-length-6 : tie.Need-same-length-6
 same-length-6 c = search needs
 
--- src/lent.rt:127:1
 returns-2 : tie.Need-returns-2
 returns-2 c = let s = c .before .before .before .before .before .before in
     let k = s .before .before .before .before .before .before .before .before .before .before in
     let a = k .args in
     allocates (a .from) (now (a .memory)) (now (a .table)) (now (a .temps)) (a .d) (a .g) (s .before .before .before .before .value .ensures) (s .before .before .before .color-of .ensures) (c .enum-told2 .given .1) (s .alloc .ensures .0) (s .alloc .ensures .1 .0) (s .alloc .ensures .1 .1) (refl) (refl)
 
--- src/lent.rt:127:1
 same-length-7 : tie.Need-same-length-7
 same-length-7 c = search needs
 
--- src/lent.rt:127:1
 same-length-8 : tie.Need-same-length-8
 same-length-8 c = search needs
 
--- src/lent.rt:127:1
 same-length-9 : tie.Need-same-length-9
 same-length-9 c = search needs
 
--- src/lent.rt:127:1
 returns-3 : tie.Need-returns-3
 returns-3 c = let s = c .before .before .before .before .before .before .before .before .before .before in
     let k = s .before .before .before .before .before .before .before .before .before .before in
     let a = k .args in
     allocates (a .from) (now (a .memory)) (now (a .table)) (now (a .temps)) (a .d) (a .g) (s .before .before .before .before .value .ensures) (s .before .before .before .color-of .ensures) (c .before .before .before .before .enum-told3 .given .1) (s .alloc .ensures .0) (s .alloc .ensures .1 .0) (s .alloc .ensures .1 .1) (c .before .before .becomes .ensures .0) (c .before .before .becomes .ensures .1)
 
--- src/lent.rt:127:1
 same-length-10 : tie.Need-same-length-10
 same-length-10 c = search needs
 
--- src/lent.rt:127:1
 same-length-11 : tie.Need-same-length-11
 same-length-11 c = search needs
 
--- src/lent.rt:127:1
 same-length-12 : tie.Need-same-length-12
 same-length-12 c = search needs
 
--- src/lent.rt:127:1
 returns-4 : tie.Need-returns-4
 returns-4 c = let s = c .before .before .before .before .before .before .before .before .before .before .before in
     let k = s .before .before .before .before .before .before .before .before .before .before in

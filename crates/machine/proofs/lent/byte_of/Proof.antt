@@ -2,19 +2,13 @@ use native.Mathlib.Omega.{arith}
 use borrow.Author.Needs.{needs}
 use Rattle.machine.proofs.lent.byte_of.Statement.{statement}
 use Rattle.machine.proofs.lent.byte_of.Tie as tie
-use Rattle.machine.proofs.lent.byte_of.Reads as reads
-use Rattle.machine.proofs.lent.byte_of.Lts as lts
-use Rattle.machine.proofs.lent.start_of.Reads as start-of-reads
 
--- src/lent.rt:32:5
 start-of-requires : tie.Need-start-of-requires
 start-of-requires c κs = search needs
 
--- src/lent.rt:32:5
 add-result : tie.Need-add-result
 add-result c = omega (arith, c .before .before .pre (c .before .before .args .g))
 
--- src/lent.rt:28:1
 returns : tie.Need-returns
 returns c = search needs
 

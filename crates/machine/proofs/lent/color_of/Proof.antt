@@ -4,18 +4,13 @@ use mathlib.Core.Path.{sym}
 use borrow.Author.Needs.{needs}
 use Rattle.machine.proofs.lent.color_of.Statement.{statement}
 use Rattle.machine.proofs.lent.color_of.Tie as tie
-use Rattle.machine.proofs.lent.color_of.Reads as reads
-use Rattle.machine.proofs.lent.color_of.Lts as lts
 
--- src/lent.rt:40:28
 shared-slice-read-result : tie.Need-shared-slice-read-result
 shared-slice-read-result c = search needs
 
--- src/lent.rt:36:1
 returns : tie.Need-returns
 returns c = search needs
 
--- src/lent.rt:36:1
 returns-2 : tie.Need-returns-2
 returns-2 c = sym (List·getD-eq-default (now (c .before .args .colors)) 0 (c .if1 .left))
 

@@ -4,100 +4,74 @@ use denote.Ref.{now}
 use borrow.Author.Needs.{needs}
 use Rattle.machine.proofs.lent.free.Statement.{statement}
 use Rattle.machine.proofs.lent.free.Tie as tie
-use Rattle.machine.proofs.lent.free.Reads as reads
-use Rattle.machine.proofs.lent.free.Lts as lts
-use Rattle.heap.proofs.freeing.free.Reads as free-reads
-use Rattle.machine.proofs.temps.completed.Reads as completed-reads
-use Rattle.machine.proofs.temps.value.Reads as value-reads
 
--- src/lent.rt:161:9
 value-requires : tie.Need-value-requires
 value-requires c κs = search needs
 
--- src/lent.rt:163:9
 completed-requires : tie.Need-completed-requires
 completed-requires c κs = search needs
 
--- src/lent.rt:163:9
 returns : tie.Need-returns
 returns c = let a = c .before .before .before .before .before .before .args in
     frees-none (a .from) (now (a .memory)) (now (a .table)) (c .before .if1 .taken) (c .before .before .value .ensures) (c .completed .ensures)
 
--- src/lent.rt:165:9
 free-requires : tie.Need-free-requires
 free-requires c κs = search needs
 
--- src/lent.rt:167:44
 enum-told : tie.Need-enum-told
 enum-told c = search needs
 
--- src/lent.rt:168:40
 enum-told-2 : tie.Need-enum-told-2
 enum-told-2 c = search needs
 
--- src/lent.rt:169:36
 enum-told-3 : tie.Need-enum-told-3
 enum-told-3 c = search needs
 
--- src/lent.rt:170:27
 enum-told-4 : tie.Need-enum-told-4
 enum-told-4 c = search needs
 
--- src/lent.rt:170:27
 completed-requires-2 : tie.Need-completed-requires-2
 completed-requires-2 c κs = search needs
 
--- src/lent.rt:155:1
 same-length : tie.Need-same-length
 same-length c = search needs
 
--- src/lent.rt:155:1
 same-length-2 : tie.Need-same-length-2
 same-length-2 c = search needs
 
--- src/lent.rt:155:1
 returns-2 : tie.Need-returns-2
 returns-2 c = let s = c .before .before .before .before .before .before in
     let a = s .before .before .before .before .before .before .before .before .args in
     frees (a .from) (now (a .memory)) (now (a .table)) (s .before .before .before .if1 .left) (s .before .before .before .before .value .ensures) (c .enum-told .given .1) (s .free .ensures .0) (s .free .ensures .1 .0) (s .free .ensures .1 .1) (refl)
 
--- src/lent.rt:155:1
 same-length-3 : tie.Need-same-length-3
 same-length-3 c = search needs
 
--- src/lent.rt:155:1
 same-length-4 : tie.Need-same-length-4
 same-length-4 c = search needs
 
--- src/lent.rt:155:1
 returns-3 : tie.Need-returns-3
 returns-3 c = let s = c .before .before .before .before .before .before in
     let a = s .before .before .before .before .before .before .before .before .args in
     frees (a .from) (now (a .memory)) (now (a .table)) (s .before .before .before .if1 .left) (s .before .before .before .before .value .ensures) (c .enum-told2 .given .1) (s .free .ensures .0) (s .free .ensures .1 .0) (s .free .ensures .1 .1) (refl)
 
--- src/lent.rt:155:1
 same-length-5 : tie.Need-same-length-5
 same-length-5 c = search needs
 
--- src/lent.rt:155:1
 same-length-6 : tie.Need-same-length-6
 same-length-6 c = search needs
 
--- src/lent.rt:155:1
 returns-4 : tie.Need-returns-4
 returns-4 c = let s = c .before .before .before .before .before .before in
     let a = s .before .before .before .before .before .before .before .before .args in
     frees (a .from) (now (a .memory)) (now (a .table)) (s .before .before .before .if1 .left) (s .before .before .before .before .value .ensures) (c .enum-told3 .given .1) (s .free .ensures .0) (s .free .ensures .1 .0) (s .free .ensures .1 .1) (refl)
 
--- src/lent.rt:155:1
 same-length-7 : tie.Need-same-length-7
 same-length-7 c = search needs
 
--- src/lent.rt:155:1
 same-length-8 : tie.Need-same-length-8
 same-length-8 c = search needs
 
--- src/lent.rt:155:1
 returns-5 : tie.Need-returns-5
 returns-5 c = let s = c .before .before .before .before .before .before .before in
     let a = s .before .before .before .before .before .before .before .before .args in

@@ -3,47 +3,33 @@ use denote.Ref.{now}
 use borrow.Author.Needs.{needs}
 use Rattle.machine.proofs.lent.load32.Statement.{statement}
 use Rattle.machine.proofs.lent.load32.Tie as tie
-use Rattle.machine.proofs.lent.load32.Reads as reads
-use Rattle.machine.proofs.lent.load32.Lts as lts
-use Rattle.heap.proofs.bytes.load32.Reads as load32-reads
-use Rattle.machine.proofs.temps.becomes.Reads as becomes-reads
-use Rattle.machine.proofs.temps.value.Reads as value-reads
 
--- src/lent.rt:60:45
 value-requires : tie.Need-value-requires
 value-requires c κs = search needs
 
--- src/lent.rt:60:9
 load32-requires : tie.Need-load32-requires
 load32-requires c κs = search needs
 
--- src/lent.rt:62:21
 enum-known-found : tie.Need-enum-known-found
 enum-known-found c = search needs
 
--- src/lent.rt:62:32
 becomes-requires : tie.Need-becomes-requires
 becomes-requires c κs = search needs
 
--- src/lent.rt:63:37
 enum-told : tie.Need-enum-told
 enum-told c = search needs
 
--- src/lent.rt:55:1
 same-length : tie.Need-same-length
 same-length c = search needs
 
--- src/lent.rt:55:1
 returns : tie.Need-returns
 returns c = let a = c .before .before .before .before .before .before .before .before .before .before .before .before .args in
     loads (a .from) 4 (now (a .memory)) (now (a .temps)) (a .d) (c .before .before .before .before .before .before .before .load32 .ensures) (c .before .before .before .before .before .before .before .before .value .ensures) (c .before .before .before .before .before .found .given .1)
     (c .before .before .becomes .ensures .0) (c .before .before .becomes .ensures .1)
 
--- src/lent.rt:55:1
 same-length-2 : tie.Need-same-length-2
 same-length-2 c = search needs
 
--- src/lent.rt:55:1
 returns-2 : tie.Need-returns-2
 returns-2 c = let a = c .before .before .before .before .before .before .before .args in
     loads-not (a .from) 4 (now (a .memory)) (now (a .temps)) (a .d) (c .before .before .load32 .ensures) (c .before .before .before .value .ensures) (c .enum-told .given .1)

@@ -4,22 +4,16 @@ use mathlib.Core.Path.{sym}
 use borrow.Author.Needs.{needs}
 use Rattle.machine.proofs.lent.start_of.Statement.{statement}
 use Rattle.machine.proofs.lent.start_of.Tie as tie
-use Rattle.machine.proofs.lent.start_of.Reads as reads
-use Rattle.machine.proofs.lent.start_of.Lts as lts
 
--- src/lent.rt:24:28
 mul-result : tie.Need-mul-result
 mul-result c = search needs
 
--- src/lent.rt:24:28
 shared-slice-read-result : tie.Need-shared-slice-read-result
 shared-slice-read-result c = search needs
 
--- src/lent.rt:20:1
 returns : tie.Need-returns
 returns c = search needs
 
--- src/lent.rt:20:1
 returns-2 : tie.Need-returns-2
 returns-2 c = sym (List·getD-eq-default (now (c .before .args .starts)) 0 (c .if1 .left))
 

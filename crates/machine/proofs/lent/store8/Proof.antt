@@ -3,39 +3,27 @@ use denote.Ref.{now}
 use borrow.Author.Needs.{needs}
 use Rattle.machine.proofs.lent.store8.Statement.{statement}
 use Rattle.machine.proofs.lent.store8.Tie as tie
-use Rattle.machine.proofs.lent.store8.Reads as reads
-use Rattle.machine.proofs.lent.store8.Lts as lts
-use Rattle.heap.proofs.bytes.store8.Reads as store8-reads
-use Rattle.machine.proofs.temps.completed.Reads as completed-reads
-use Rattle.machine.proofs.temps.value.Reads as value-reads
 
--- src/lent.rt:76:45
 value-requires : tie.Need-value-requires
 value-requires c κs = search needs
 
--- src/lent.rt:76:8
 store8-requires : tie.Need-store8-requires
 store8-requires c κs = search needs
 
--- src/lent.rt:77:9
 completed-requires : tie.Need-completed-requires
 completed-requires c κs = search needs
 
--- src/lent.rt:77:9
 same-length : tie.Need-same-length
 same-length c = search needs
 
--- src/lent.rt:77:9
 returns : tie.Need-returns
 returns c = let k = c .before .before .before .before in
     let a = k .before .before .before .before .before .args in
     a-store (a .from) 1 (now (a .memory)) (a .address) (k .store8 .ensures .0) (k .store8 .ensures .1) (k .before .value .ensures) (stores (a .from) (c .before .if1 .taken) (c .completed .ensures))
 
--- src/lent.rt:71:1
 same-length-2 : tie.Need-same-length-2
 same-length-2 c = search needs
 
--- src/lent.rt:71:1
 returns-2 : tie.Need-returns-2
 returns-2 c = let k = c .before .before .before in
     let a = k .before .before .before .before .before .args in

@@ -3,43 +3,31 @@ use denote.Ref.{now}
 use borrow.Author.Needs.{needs}
 use Rattle.machine.proofs.moves.put_out.Statement.{statement}
 use Rattle.machine.proofs.moves.put_out.Tie as tie
-use Rattle.machine.proofs.moves.put_out.Reads as reads
-use Rattle.machine.proofs.moves.put_out.Lts as lts
-use Rattle.machine.proofs.temps.value.Reads as value-reads
 
--- src/moves.rt:67:9
 returns : tie.Need-returns
 returns c = let a = c .before .before .before .args in no-room (a .from) (now (a .room)) _ (c .if1 .taken)
 
--- src/moves.rt:69:17
 value-requires : tie.Need-value-requires
 value-requires c κs = search needs
 
--- src/moves.rt:69:5
 mul-room : tie.Need-mul-room
 mul-room c = search needs
 
--- src/moves.rt:69:5
 slice-write-room : tie.Need-slice-write-room
 slice-write-room c = search needs
 
--- src/moves.rt:71:13
 add-t6 : tie.Need-add-t6
 add-t6 c = search needs
 
--- src/moves.rt:72:16
 add-t9 : tie.Need-add-t9
 add-t9 c = search needs
 
--- src/moves.rt:73:14
 add-t11 : tie.Need-add-t11
 add-t11 c = search needs
 
--- src/moves.rt:60:1
 same-length : tie.Need-same-length
 same-length c = search needs
 
--- src/moves.rt:60:1
 returns-2 : tie.Need-returns-2
 returns-2 c = let a = c .before .before .before .before .before .before .args in an-output (a .from) (now (a .room)) (c .before .before .before .if1 .left) (c .before .before .value .ensures)
 

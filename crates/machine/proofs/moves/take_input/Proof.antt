@@ -3,43 +3,31 @@ use denote.Ref.{now}
 use borrow.Author.Needs.{needs}
 use Rattle.machine.proofs.moves.take_input.Statement.{statement}
 use Rattle.machine.proofs.moves.take_input.Tie as tie
-use Rattle.machine.proofs.moves.take_input.Reads as reads
-use Rattle.machine.proofs.moves.take_input.Lts as lts
-use Rattle.machine.proofs.temps.set_temp.Reads as set-temp-reads
 
--- src/moves.rt:48:9
 returns : tie.Need-returns
 returns c = let a = c .before .before .before .args in no-input (a .from) (now (a .input)) (now (a .temps)) (a .d) (c .if1 .taken)
 
--- src/moves.rt:50:24
 mul-set-temp : tie.Need-mul-set-temp
 mul-set-temp c = search needs
 
--- src/moves.rt:50:24
 shared-slice-read-set-temp : tie.Need-shared-slice-read-set-temp
 shared-slice-read-set-temp c = search needs
 
--- src/moves.rt:50:5
 set-temp-requires : tie.Need-set-temp-requires
 set-temp-requires c κs = search needs
 
--- src/moves.rt:52:13
 add-t6 : tie.Need-add-t6
 add-t6 c = search needs
 
--- src/moves.rt:53:16
 add-t13 : tie.Need-add-t13
 add-t13 c = search needs
 
--- src/moves.rt:55:16
 add-t14 : tie.Need-add-t14
 add-t14 c = search needs
 
--- src/moves.rt:41:1
 same-length : tie.Need-same-length
 same-length c = search needs
 
--- src/moves.rt:41:1
 returns-2 : tie.Need-returns-2
 returns-2 c = let a = c .before .before .before .before .before .before .before .before .before .before .args in an-input (a .from) (now (a .input)) (now (a .temps)) (a .d) _ (c .before .before .before .before .before .before .before .if1 .left) (c .before .before .before .before .set-temp .ensures)
 

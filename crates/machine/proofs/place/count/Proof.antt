@@ -6,42 +6,31 @@ use mathlib.Core.Path.{sym, ap}
 use borrow.Author.Needs.{needs}
 use Rattle.machine.proofs.place.count.Statement.{statement}
 use Rattle.machine.proofs.place.count.Tie as tie
-use Rattle.machine.proofs.place.count.Reads as reads
-use Rattle.machine.proofs.place.count.Lts as lts
 
--- src/place.rt:19:32
 enum-told : tie.Need-enum-told
 enum-told c = search needs
 
--- src/place.rt:20:33
 enum-told-2 : tie.Need-enum-told-2
 enum-told-2 c = search needs
 
--- src/place.rt:21:38
 enum-told-3 : tie.Need-enum-told-3
 enum-told-3 c = search needs
 
--- src/place.rt:22:39
 enum-told-4 : tie.Need-enum-told-4
 enum-told-4 c = search needs
 
--- src/place.rt:15:1
 returns : tie.Need-returns
 returns c = sym (ap (λ (i : Instr). counts (view i)) (c .enum-told .given .1))
 
--- src/place.rt:15:1
 returns-2 : tie.Need-returns-2
 returns-2 c = sym (ap (λ (i : Instr). counts (view i)) (c .enum-told2 .given .1))
 
--- src/place.rt:15:1
 returns-3 : tie.Need-returns-3
 returns-3 c = sym (ap (λ (i : Instr). counts (view i)) (c .enum-told3 .given .1))
 
--- src/place.rt:15:1
 returns-4 : tie.Need-returns-4
 returns-4 c = sym (ap (λ (i : Instr). counts (view i)) (c .enum-told4 .given .1))
 
--- src/place.rt:15:1
 returns-5 : tie.Need-returns-5
 returns-5 c = counted (c .before .args .i) (c .match .keys5)
 

@@ -15,9 +15,6 @@ use lib.ListN.{take}
 use Rattle.machine.specs.Stop.{placesIn}
 use Rattle.machine.proofs.place.place_of.Statement.{statement}
 use Rattle.machine.proofs.place.place_of.Tie as tie
-use Rattle.machine.proofs.place.place_of.Reads as reads
-use Rattle.machine.proofs.place.place_of.Lts as lts
-use Rattle.machine.proofs.place.count.Reads as count-reads
 
 abbrev Inv-loop : tie.InvT-loop
 Inv-loop lines at code place₀ i₀ place i =
@@ -26,36 +23,28 @@ Inv-loop lines at code place₀ i₀ place i =
 abbrev μ-loop : tie.MeasureT-loop
 μ-loop lines at code place₀ i₀ place i = lines - i
 
--- src/place.rt:34:5
 loop-holds : tie.Need-loop-holds Inv-loop μ-loop
 unfolding placesIn
 loop-holds c = (refl, omega arith, omega arith, omega arith)
 
--- src/place.rt:35:20
 mul-line : tie.Need-mul-line Inv-loop μ-loop
 mul-line c = omega arith
 
--- src/place.rt:35:20
 array-copy-out-line : tie.Need-array-copy-out-line Inv-loop μ-loop
 array-copy-out-line c = omega arith
 
--- src/place.rt:37:18
 count-requires : tie.Need-count-requires Inv-loop μ-loop
 count-requires c κs = search needs
 
--- src/place.rt:37:9
 add-place : tie.Need-add-place Inv-loop μ-loop
 add-place c = omega (arith, c .count .ensures, at-most-one (view (getD (c .before .before .before .before .before .args .t1) (c .before .before .before .before .loop .i) blankLine .instr)))
 
--- src/place.rt:38:9
 add-i : tie.Need-add-i Inv-loop μ-loop
 add-i c = omega arith
 
--- src/place.rt:34:5
 loop-less : tie.Need-loop-less Inv-loop μ-loop
 loop-less c = omega arith
 
--- src/place.rt:34:5
 loop-again : tie.Need-loop-again Inv-loop μ-loop
 loop-again c = let code = c .before .before .before .before .before .args .t1 in
     let i = c .before .before .before .before .loop .i in
@@ -66,13 +55,11 @@ loop-again c = let code = c .before .before .before .before .before .args .t1 in
       omega (arith, c .count .ensures, at-most-one (view (getD code i blankLine .instr))),
     )
 
--- src/place.rt:28:1
 returns : tie.Need-returns Inv-loop μ-loop
 returns c = let a = c .before .before .before .args in
     let same : c .before .before .loop .i ≡ a .at = omega (arith, ltb-false) in
     place-at (a .t1) (a .lines) (a .at) (omega arith) (c .before .before .loop .inv .0 ∙ ap (λ (n : ℕ). placesIn (map (λ x. x .instr) (take n (a .t1)))) same)
 
--- src/place.rt:28:1
 returns-2 : tie.Need-returns-2 Inv-loop μ-loop
 returns-2 c = let a = c .before .before .args in
     let same : c .before .loop .i ≡ a .lines = omega arith in

@@ -3,15 +3,10 @@ use mathlib.Core.Path.{ap}
 use borrow.Author.Needs.{needs}
 use Rattle.machine.proofs.place.recorded.Statement.{statement}
 use Rattle.machine.proofs.place.recorded.Tie as tie
-use Rattle.machine.proofs.place.recorded.Reads as reads
-use Rattle.machine.proofs.place.recorded.Lts as lts
-use Rattle.machine.proofs.place.place_of.Reads as place-of-reads
 
--- src/place.rt:50:16
 place-of-requires : tie.Need-place-of-requires
 place-of-requires c κs = search needs
 
--- src/place.rt:44:1
 returns : tie.Need-returns
 returns c = let a = c .before .args in ap (λ (n : ℕ). record { reason = a .reason; place = n; steps = a .now .steps; out = a .now .out; taken = a .now .taken }) (c .place-of .ensures)
 

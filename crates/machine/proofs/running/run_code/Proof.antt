@@ -15,10 +15,6 @@ use Rattle.machine.proofs.Temporaries.{narrow-held}
 use Rattle.machine.proofs.Going.{Course, Going, weightOf, AfterTurn, after-turn, stops-past, stops-limit, starts-off}
 use Rattle.machine.proofs.running.run_code.Statement.{statement}
 use Rattle.machine.proofs.running.run_code.Tie as tie
-use Rattle.machine.proofs.running.run_code.Reads as reads
-use Rattle.machine.proofs.running.run_code.Lts as lts
-use Rattle.machine.proofs.place.recorded.Reads as recorded-reads
-use Rattle.machine.proofs.step.step.Reads as step-reads
 
 -- the run that the loop is in
 abbrev courseOf : (lines : ℕ) (input : List ℕ) (limit : ℕ) (memory table room : List ℕ) (code : List Line) (starts colors : List ℕ) → Course
@@ -93,78 +89,61 @@ module _ (c : tie.After-step Inv-loop μ-loop) where
       (turned t (held (c .step .last .1 .1 .1 .1 .1 .0) (c .step .last .1 .1 .1 .1 .1 .1 .0) (c .step .last .1 .1 .1 .1 .1 .1 .1 .0) (c .step .last .1 .1 .1 .1 .1 .1 .1 .1 .0))))
       e (after c)
 
--- src/running.rt:37:5
 loop-holds : tie.Need-loop-holds Inv-loop μ-loop
 loop-holds c = let s = c .before .before .before .before in
     (starts-off (codeOf (s .args .t1) (s .args .lines)) (s .args .t3) (s .args .t4) (now (s .args .input)) (s .args .limit) (now (s .args .memory)) (now (s .args .table)) (now (s .args .room)) (s .pre .2) (s .pre .3), refl)
 
--- src/running.rt:41:13
 recorded-requires : tie.Need-recorded-requires Inv-loop μ-loop
 recorded-requires c κs = c .before .before .before .before .before .before .pre .0
 
--- src/running.rt:41:13
 same-length : tie.Need-same-length Inv-loop μ-loop
 same-length c = c .before .before .loop .inv .0 .memory ∙ sym (c .before .before .before .before .before .before .before .pre .2)
 
--- src/running.rt:41:13
 same-length-2 : tie.Need-same-length-2 Inv-loop μ-loop
 same-length-2 c = c .before .before .loop .inv .0 .table ∙ sym (c .before .before .before .before .before .before .before .pre .3)
 
--- src/running.rt:41:13
 same-length-3 : tie.Need-same-length-3 Inv-loop μ-loop
 same-length-3 c = c .before .before .loop .inv .0 .room
 
--- src/running.rt:41:13
 returns : tie.Need-returns Inv-loop μ-loop
 returns c = let s = c .before .before .before .before .before .before .before in
     let l = c .before .before in
     ap (λ (x : Run). answered x (lentOf (l .loop .memory) (l .loop .table) (l .loop .room))) (c .recorded .ensures)
     ∙ stops-past (course s) (heldAt l) (l .loop .now) (l .loop .inv .0) (omega (arith, code-is s, c .before .if1 .taken))
 
--- src/running.rt:44:13
 recorded-requires-2 : tie.Need-recorded-requires-2 Inv-loop μ-loop
 recorded-requires-2 c κs = c .before .before .before .before .before .before .before .pre .0
 
--- src/running.rt:44:13
 same-length-4 : tie.Need-same-length-4 Inv-loop μ-loop
 same-length-4 c = c .before .before .before .loop .inv .0 .memory ∙ sym (c .before .before .before .before .before .before .before .before .pre .2)
 
--- src/running.rt:44:13
 same-length-5 : tie.Need-same-length-5 Inv-loop μ-loop
 same-length-5 c = c .before .before .before .loop .inv .0 .table ∙ sym (c .before .before .before .before .before .before .before .before .pre .3)
 
--- src/running.rt:44:13
 same-length-6 : tie.Need-same-length-6 Inv-loop μ-loop
 same-length-6 c = c .before .before .before .loop .inv .0 .room
 
--- src/running.rt:44:13
 returns-2 : tie.Need-returns-2 Inv-loop μ-loop
 returns-2 c = let s = c .before .before .before .before .before .before .before .before in
     let l = c .before .before .before in
     ap (λ (x : Run). answered x (lentOf (l .loop .memory) (l .loop .table) (l .loop .room))) (c .recorded2 .ensures)
     ∙ stops-limit (course s) (heldAt l) (l .loop .now) (l .loop .inv .0) (omega (arith, code-is s, c .before .before .if1 .left)) (c .before .if2 .taken)
 
--- src/running.rt:46:20
 mul-line : tie.Need-mul-line Inv-loop μ-loop
 mul-line c = omega arith
 
--- src/running.rt:46:20
 array-copy-out-line : tie.Need-array-copy-out-line Inv-loop μ-loop
 array-copy-out-line c = omega arith
 
--- src/running.rt:48:33
 slice-aggregate-step : tie.Need-slice-aggregate-step Inv-loop μ-loop
 slice-aggregate-step c = sym (c .before .before .before .before .before .before .before .before .before .good .1 .1 .0 .1 .0 .1)
 
--- src/running.rt:48:42
 slice-aggregate-step-2 : tie.Need-slice-aggregate-step-2 Inv-loop μ-loop
 slice-aggregate-step-2 c = sym (c .before .before .before .before .before .before .before .before .before .before .good .1 .1 .1 .0 .1 .0 .1)
 
--- src/running.rt:48:58
 slice-aggregate-step-3 : tie.Need-slice-aggregate-step-3 Inv-loop μ-loop
 slice-aggregate-step-3 c = sym (c .before .before .before .before .before .before .loop .inv .1)
 
--- src/running.rt:48:13
 step-requires : tie.Need-step-requires Inv-loop μ-loop
 step-requires c κs = let s = c .before .before .before .before .before .before .before .before .before .before .before .before .before .before in
     let l = c .before .before .before .before .before .before .before .before .before in (
@@ -178,41 +157,32 @@ step-requires c κs = let s = c .before .before .before .before .before .before 
       narrow-held (s .args .t1) (s .args .lines) (l .loop .now .at) (fits s) (c .before .before .before .before .before .before .before .before .if1 .left) (s .pre .4) (l .loop .inv .1),
     )
 
--- src/running.rt:50:24
 enum-known-turn : tie.Need-enum-known-turn Inv-loop μ-loop
 enum-known-turn c = search needs
 
--- src/running.rt:51:17
 recorded-requires-3 : tie.Need-recorded-requires-3 Inv-loop μ-loop
 recorded-requires-3 c κs = c .before .before .before .before .before .before .before .before .before .before .before .before .before .before .before .before .before .before .before .before .before .before .before .before .before .pre .0
 
--- src/running.rt:51:17
 same-length-7 : tie.Need-same-length-7 Inv-loop μ-loop
 same-length-7 c = memory-long (c .before .before .before .before .before .before .before .before .before .before .before) ∙ sym (c .before .before .before .before .before .before .before .before .before .before .before .before .before .before .before .before .before .before .before .before .before .before .before .before .before .before .pre .2)
 
--- src/running.rt:51:17
 same-length-8 : tie.Need-same-length-8 Inv-loop μ-loop
 same-length-8 c = table-long (c .before .before .before .before .before .before .before .before .before .before .before) ∙ sym (c .before .before .before .before .before .before .before .before .before .before .before .before .before .before .before .before .before .before .before .before .before .before .before .before .before .before .pre .3)
 
--- src/running.rt:51:17
 same-length-9 : tie.Need-same-length-9 Inv-loop μ-loop
 same-length-9 c = room-long (c .before .before .before .before .before .before .before .before .before .before .before)
 
--- src/running.rt:51:17
 returns-3 : tie.Need-returns-3 Inv-loop μ-loop
 returns-3 c = let k = c .before .before .before .before .before .before .before .before .before .before .before in
     ap (λ (x : Run). answered x (lentOf (k .step .last .1 .1 .1 .1 .1 .1 .0) (k .step .last .1 .1 .1 .1 .1 .1 .1 .0) (k .step .last .1 .1 .1 .1 .1 .1 .1 .1 .0))) (c .recorded3 .ensures)
     ∙ known k (c .before .before .turn .given .1)
 
--- src/running.rt:53:22
 enum-known-turn-2 : tie.Need-enum-known-turn-2 Inv-loop μ-loop
 enum-known-turn-2 c = search needs
 
--- src/running.rt:37:5
 loop-less : tie.Need-loop-less Inv-loop μ-loop
 loop-less c = known (c .before .before .before .before .before .before .before .before .before .before) (c .before .turn2 .given .1) .1
 
--- src/running.rt:37:5
 loop-again : tie.Need-loop-again Inv-loop μ-loop
 loop-again c = let k = c .before .before .before .before .before .before .before .before .before .before in (known k (c .before .turn2 .given .1) .0 (memory-long k) (table-long k) (room-long k), temps-long k)
 

@@ -8,11 +8,6 @@ use Rattle.machine.specs.Start.{paintHeld}
 use Rattle.machine.proofs.Starting.{paint-next, paint-done, lays}
 use Rattle.machine.proofs.start.lay_table.Statement.{statement}
 use Rattle.machine.proofs.start.lay_table.Tie as tie
-use Rattle.machine.proofs.start.lay_table.Reads as reads
-use Rattle.machine.proofs.start.lay_table.Lts as lts
-use Rattle.heap.proofs.bytes.fill.Reads as fill-reads
-use Rattle.heap.proofs.colors.paint.Reads as paint-reads
-use Rattle.machine.proofs.start.paint_one.Reads as paint-one-reads
 
 abbrev Inv-loop : tie.InvT-loop
 Inv-loop table₀ objects starts kinds sizes colors g₀ table g =
@@ -23,51 +18,39 @@ Inv-loop table₀ objects starts kinds sizes colors g₀ table g =
 abbrev μ-loop : tie.MeasureT-loop
 μ-loop table₀ objects starts kinds sizes colors g₀ table g = objects - g
 
--- src/start.rt:57:5
 fill-requires : tie.Need-fill-requires Inv-loop μ-loop
 fill-requires c κs = search needs
 
--- src/start.rt:59:5
 loop-holds : tie.Need-loop-holds Inv-loop μ-loop
 loop-holds c = (ap (λ (n : ℕ). paintHeld (c .before .before .before .before .before .args .t2) (c .before .before .before .before .before .args .t3) (c .before .before .before .before .before .args .t4) (c .before .before .before .before .before .args .t5) 0 n (c .before .before .fill .last .0)) (omega arith), omega arith, refl)
 
--- src/start.rt:60:26
 array-read-paint-one : tie.Need-array-read-paint-one Inv-loop μ-loop
 array-read-paint-one c = omega arith
 
--- src/start.rt:60:36
 mul-paint-one : tie.Need-mul-paint-one Inv-loop μ-loop
 mul-paint-one c = omega arith
 
--- src/start.rt:60:36
 array-read-paint-one-2 : tie.Need-array-read-paint-one-2 Inv-loop μ-loop
 array-read-paint-one-2 c = omega arith
 
--- src/start.rt:60:47
 mul-paint-one-2 : tie.Need-mul-paint-one-2 Inv-loop μ-loop
 mul-paint-one-2 c = omega arith
 
--- src/start.rt:60:47
 array-read-paint-one-3 : tie.Need-array-read-paint-one-3 Inv-loop μ-loop
 array-read-paint-one-3 c = omega arith
 
--- src/start.rt:60:57
 array-read-paint-one-4 : tie.Need-array-read-paint-one-4 Inv-loop μ-loop
 array-read-paint-one-4 c = omega arith
 
--- src/start.rt:60:9
 paint-one-requires : tie.Need-paint-one-requires Inv-loop μ-loop
 paint-one-requires c κs = search needs
 
--- src/start.rt:61:9
 add-g : tie.Need-add-g Inv-loop μ-loop
 add-g c = omega arith
 
--- src/start.rt:59:5
 loop-less : tie.Need-loop-less Inv-loop μ-loop
 loop-less c = omega arith
 
--- src/start.rt:59:5
 loop-again : tie.Need-loop-again Inv-loop μ-loop
 loop-again c = let a = c .before .before .before .before .before .before .before .before .before .before .before .args in
     let l = c .before .before .before .before .before .loop in (
@@ -76,19 +59,15 @@ loop-again c = let a = c .before .before .before .before .before .before .before
       c .before .before .paint-one .kept .0 ∙ l .inv .2,
     )
 
--- src/start.rt:63:5
 paint-requires : tie.Need-paint-requires Inv-loop μ-loop
 paint-requires c κs = search needs
 
--- src/start.rt:64:5
 paint-requires-2 : tie.Need-paint-requires-2 Inv-loop μ-loop
 paint-requires-2 c κs = search needs
 
--- src/start.rt:46:1
 same-length : tie.Need-same-length Inv-loop μ-loop
 same-length c = c .before .before .paint2 .kept .0 ∙ c .before .before .before .before .before .before .paint .kept .0 ∙ c .before .before .before .before .before .before .before .before .before .loop .inv .2 ∙ c .before .before .before .before .before .before .before .before .before .before .before .before .fill .kept .0
 
--- src/start.rt:46:1
 returns : tie.Need-returns Inv-loop μ-loop
 returns c = let a = c .before .before .before .before .before .before .before .before .before .before .before .before .before .before .before .args in
     let l = c .before .before .before .before .before .before .before .before .before .loop in

@@ -3,28 +3,19 @@ use denote.Ref.{now}
 use borrow.Author.Needs.{needs}
 use Rattle.machine.proofs.start.paint_one.Statement.{statement}
 use Rattle.machine.proofs.start.paint_one.Tie as tie
-use Rattle.machine.proofs.start.paint_one.Reads as reads
-use Rattle.machine.proofs.start.paint_one.Lts as lts
-use Rattle.heap.proofs.colors.paint.Reads as paint-reads
-use Rattle.machine.proofs.start.extent_of.Reads as extent-of-reads
 
--- src/start.rt:41:43
 extent-of-requires : tie.Need-extent-of-requires
 extent-of-requires c κs = search needs
 
--- src/start.rt:41:9
 paint-requires : tie.Need-paint-requires
 paint-requires c κs = search needs
 
--- src/start.rt:37:1
 same-length : tie.Need-same-length
 same-length c = search needs
 
--- src/start.rt:37:1
 returns : tie.Need-returns
 returns c = let a = c .before .before .before .before .before .before .before .args in paints (now (a .table)) (a .kind) (a .start) (a .size) (a .color) (c .before .before .before .before .before .if1 .taken) (c .before .before .before .extent-of .ensures) (c .before .before .paint .ensures)
 
--- src/start.rt:37:1
 returns-2 : tie.Need-returns-2
 returns-2 c = let a = c .before .before .args in paints-not (now (a .table)) (a .kind) (a .start) (a .size) (a .color) (c .if1 .left)
 

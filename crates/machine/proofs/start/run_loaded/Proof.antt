@@ -5,36 +5,23 @@ use denote.Ref.{now}
 use borrow.Author.Needs.{needs}
 use Rattle.machine.proofs.start.run_loaded.Statement.{statement}
 use Rattle.machine.proofs.start.run_loaded.Tie as tie
-use Rattle.machine.proofs.start.run_loaded.Reads as reads
-use Rattle.machine.proofs.start.run_loaded.Lts as lts
-use Rattle.heap.proofs.headers.start.Reads as start-reads
-use Rattle.layout.proofs.lay_out.Reads as lay-out-reads
-use Rattle.machine.proofs.running.run_code.Reads as run-code-reads
-use Rattle.machine.proofs.start.lay_table.Reads as lay-table-reads
-use Rattle.machine.proofs.start.refused.Reads as refused-reads
 
--- src/start.rt:83:9
 lay-out-requires : tie.Need-lay-out-requires
 lay-out-requires c κs = search needs
 
--- src/start.rt:85:9
 refused-requires : tie.Need-refused-requires
 refused-requires c κs = search needs
 
--- src/start.rt:85:9
 returns : tie.Need-returns
 returns c = let a = c .before .before .before .before .before .before .before .before .before .before .before .before .before .before .args in
     over-end (a .held) (now (a .input)) (a .limit) (lentOf (now (a .memory)) (now (a .table)) (now (a .room))) (c .before .before .before .lay-out .ensures) (c .before .if1 .taken) (c .refused .ensures)
 
--- src/start.rt:88:5
 start-requires : tie.Need-start-requires
 start-requires c κs = search needs
 
--- src/start.rt:89:5
 lay-table-requires : tie.Need-lay-table-requires
 lay-table-requires c κs = search needs
 
--- src/start.rt:92:5
 run-code-requires : tie.Need-run-code-requires
 run-code-requires c κs = let s = c .before .before .before .before .before .before .before .before .before .before .before .before .before .before .before .before .before .before .before .before .before .before .before .before .before .before in
     let a = s .args in (
@@ -45,19 +32,15 @@ run-code-requires c κs = let s = c .before .before .before .before .before .bef
       s .pre .temps,
     )
 
--- src/start.rt:68:1
 same-length : tie.Need-same-length
 same-length c = search needs
 
--- src/start.rt:68:1
 same-length-2 : tie.Need-same-length-2
 same-length-2 c = search needs
 
--- src/start.rt:68:1
 same-length-3 : tie.Need-same-length-3
 same-length-3 c = search needs
 
--- src/start.rt:68:1
 returns-2 : tie.Need-returns-2
 returns-2 c = let a = c .before .before .before .before .before .before .before .before .before .before .before .before .before .before .before .before .before .before .before .before .before .before .before .before .before .before .before .before .before .before .before .before .before .args in
     runs-laid (a .held) (now (a .input)) (a .limit) (lentOf (now (a .memory)) (now (a .table)) (now (a .room))) (c .before .before .before .before .before .before .before .before .before .before .before .before .before .before .before .before .before .before .before .before .before .before .lay-out .ensures) (c .before .before .before .before .before .before .before .before .before .before .before .before .before .before .before .before .before .before .before .before .if1 .left) (c .before .before .before .before .before .before .before .before .before .before .before .before .before .before .before .before .before .start .ensures) (c .before .before .before .before .before .before .before .before .before .before .before .before .before .lay-table .ensures) (c .before .before .before .before .before .before .run-code .ensures)

@@ -2,15 +2,10 @@ use Rattle.machine.proofs.Parts.{no-cost}
 use borrow.Author.Needs.{needs}
 use Rattle.machine.proofs.temps.passed.Statement.{statement}
 use Rattle.machine.proofs.temps.passed.Tie as tie
-use Rattle.machine.proofs.temps.passed.Reads as reads
-use Rattle.machine.proofs.temps.passed.Lts as lts
-use Rattle.machine.proofs.temps.go_on.Reads as go-on-reads
 
--- src/temps.rt:55:5
 go-on-requires : tie.Need-go-on-requires
 go-on-requires c κs = search needs
 
--- src/temps.rt:51:1
 returns : tie.Need-returns
 returns c = no-cost (c .before .args .from) (c .go-on .ensures)
 
