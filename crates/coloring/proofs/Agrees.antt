@@ -5,13 +5,13 @@
 -- step put together stays together. So in the end labels and chains agree (`labels-chains`), and
 -- `Labelled` turns labels into colors. What is left is that the arrays hold what they held, with the
 -- colors of `colored` (`paints-routine`).
-use Prim.Native.Nat.{ℕ, _+_, _-_, _<_, _≤_}
+use Prim.Native.Nat.{ℕ, _+_, _<_, _≤_}
 use native.Mathlib.Omega.{arith}
 use mathlib.Core.Path.{_≡_, refl, sym, _∙_, ap}
 use mathlib.Core.Logic.{⊎-elim}
-use mathlib.Core.List.{List, [], _++_, map}
+use mathlib.Core.List.{List, [], map}
 use mathlib.Core.Bool.{Bool, true, false}
-use lib.ListN.{length, getD, replicate, length-replicate, getD-replicate, length-append, length-map, List·getD-eq-default}
+use lib.ListN.{length, getD, replicate, length-replicate, getD-replicate, length-map, List·getD-eq-default}
 use lib.Seq.{ext-getD}
 use lib.Dec.{ltb}
 use borrow.Author.Tests.{ltb-true, ltb-false, le-leb, lt-leb}
@@ -26,7 +26,9 @@ use Rattle.coloring.specs.Class.{holds, Neighbours, Chain, last, link}
 use Rattle.coloring.specs.Unsafe.{unsafeSets}
 use Rattle.coloring.specs.Colored.{tinted, withColors, colorIn, classCount, colored}
 use Rattle.coloring.specs.Labels.{leaders, painted, marksIn, usedIn, labelsIn, heldWith, painting}
-use Rattle.coloring.proofs.Members.{no-test, holds-here, holds-nil, holds-cases}
+use Rattle.files.proofs.Tests.{no-test}
+use Rattle.files.proofs.Filled.{length-filled, getD-filled}
+use Rattle.coloring.proofs.Members.{holds-here, holds-nil, holds-cases}
 use Rattle.coloring.proofs.Tinted.{tinted-length, tinted-kinds, tinted-sizes, tinted-color}
 use Rattle.coloring.proofs.Turns.{painting-many, painting-few}
 use Rattle.coloring.proofs.Joining.{at, Sound, Together, together-trans}
@@ -34,7 +36,7 @@ use Rattle.coloring.proofs.Spans.{setsDone, sets-list, AllJoined, sets-
 use Rattle.coloring.proofs.Marking.{Named, sizes, place-in, in-chain, own-in, listed-in, From, own, listed, set-from, ownsDone, usesDone, owns-list, uses-list, OwnsDone, owns-done, uses-only, uses-named}
 use Rattle.coloring.proofs.Labelled.{leaders-classes, Painted, paints}
 use Rattle.coloring.proofs.Bounds.{own-below, listed-below, member-below, unsafe-below}
-use Rattle.coloring.proofs.Arrays.{filled-at, sizes-are, code-at}
+use Rattle.coloring.proofs.Arrays.{sizes-are, code-at}
 
 -- ---- the labels
 
@@ -132,8 +134,8 @@ module _ (p : Program) (good : Good 1 p) where
   labels-are : labelsIn routine ≡ labels
   labels-are =
       sets-list (usedIn routine) (routine .ends) (routine .members) (p .sets) 0 0 (marksIn routine)
-      (λ k h. let z : 0 + k ≡ k = omega arith in rw z (filled-at 0 400 (endsFrom 0 (p .sets)) k))
-      (λ k h. let z : 0 + k ≡ k = omega arith in rw z (filled-at 0 16384 (joined (p .sets)) k))
+      (λ k h. let z : 0 + k ≡ k = omega arith in rw z (getD-filled 400 0 (endsFrom 0 (p .sets)) k))
+      (λ k h. let z : 0 + k ≡ k = omega arith in rw z (getD-filled 16384 0 (joined (p .sets)) k))
       ∙ ap (λ (u : List Bool). setsDone u 0 (p .sets) (marksIn routine)) used-are
       ∙ ap (setsDone used 0 (p .sets)) marks-are
 
@@ -156,23 +158,19 @@ module _ (p : Program) (good : Good 1 p) where
   tints-length = length-map (tinted (colorIn p) 0 (p .objects)) (λ o. o .color) ∙ tinted-length (colorIn p) 0 (p .objects)
 
   colors-are : painted (length (p .objects)) labels 0 2 (replicate 400 0) ≡ filled 400 0 tints
-  unfolding filled
   colors-are =
       let d : Painted full labels labels-sound labels-chains (λ x u. object-most x (unsafe-below p good x u)) (0 + length (p .objects)) (replicate 400 0) (painted (length (p .objects)) labels 0 2 (replicate 400 0)) = colors-done in
       let few : length tints ≤ 400 = omega (arith, tints-length, good .objects-most) in
-      let w : length (tints ++ replicate (400 - length tints) 0) ≡ 400 =
-      omega (arith, few, length-append tints (replicate (400 - length tints) 0), length-replicate {A = ℕ} (400 - length tints) 0)
-      in
-      ext-getD 0 (painted (length (p .objects)) labels 0 2 (replicate 400 0)) (tints ++ replicate (400 - length tints) 0) (d .wide ∙ sym w)
+      ext-getD 0 (painted (length (p .objects)) labels 0 2 (replicate 400 0)) (filled 400 0 tints) (d .wide ∙ sym (length-filled 400 0 tints few))
       (λ i h.
       ⊎-elim
       (λ b.
       let z : 0 + i ≡ i = omega arith in
-      d .done i (omega (arith, b)) ∙ sym (filled-at 0 400 tints i ∙ tinted-color (colorIn p) 0 (p .objects) i b ∙ ap (colorIn p) z))
+      d .done i (omega (arith, b)) ∙ sym (getD-filled 400 0 tints i ∙ tinted-color (colorIn p) 0 (p .objects) i b ∙ ap (colorIn p) z))
       (λ b.
       let n : 0 + length (p .objects) ≤ i = omega (arith, b) in
       let e : getD (replicate 400 0) i 0 ≡ 0 = getD-replicate 400 i 0 0 (omega (arith, h, d .wide)) in
-      d .rest i n ∙ e ∙ sym (filled-at 0 400 tints i ∙ List·getD-eq-default tints 0 (omega (arith, b, tints-length))))
+      d .rest i n ∙ e ∙ sym (getD-filled 400 0 tints i ∙ List·getD-eq-default tints 0 (omega (arith, b, tints-length))))
       (Rattle.coloring.proofs.Joining.below-or i (length (p .objects))))
 
   -- the arrays with these colors hold the colored routine

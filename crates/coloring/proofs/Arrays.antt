@@ -1,44 +1,29 @@
 -- A routine in its arrays: what an element of each is, and that all of it is in range.
 use Prim.Native.Nat.{ℕ, zero, suc, _+_, _-_, _<_, _≤_}
 use native.Mathlib.Omega.{arith}
-use mathlib.Core.Path.{_≡_, refl, sym, _∙_, ap, fun-ext}
+use mathlib.Core.Path.{_≡_, sym, _∙_, ap, fun-ext}
 use mathlib.Core.Logic.{⊎-elim}
 use mathlib.Core.List.{List, [], _∷_, _++_, map}
 use mathlib.Core.Bool.{true}
-use lib.ListN.{length, getD, replicate, length-append, List·getD-append, List·getD-eq-default, List·getD-map}
+use lib.ListN.{length, getD, length-append, List·getD-append, List·getD-eq-default}
 use lib.Seq.{getD-append-add}
 use Rattle.files.specs.declared.Object.{Object}
 use Rattle.opcodes.specs.declared.Instr.{Instr}
 use Rattle.files.specs.declared.Outcome.{Outcome}
 use Rattle.files.specs.Program.{Program}
 use Rattle.files.specs.Held.{joined, endsFrom, filled, line, heldAs}
-use Rattle.files.proofs.RoundTrip.{Good}
+use Rattle.files.proofs.Filled.{getD-filled, getD-filled-map}
+use Rattle.files.proofs.RoundTrip.{Good, lines-bounds}
 use Rattle.coloring.specs.Class.{holds}
 use Rattle.coloring.specs.Nature.{sizesIn}
 use Rattle.coloring.specs.Labels.{InRange}
-use Rattle.coloring.proofs.Members.{holds-here, holds-there}
+use Rattle.coloring.proofs.Members.{holds-at}
 use Rattle.coloring.proofs.Natures.{sizes-inside, sizes-past}
 use Rattle.coloring.proofs.Joining.{below-or}
 use Rattle.coloring.proofs.Marking.{sizes, CodeAt}
-use Rattle.coloring.proofs.Bounds.{sets-most, member-below, lines-most, joined-most}
+use Rattle.coloring.proofs.Bounds.{sets-most, member-below, joined-most}
 
 -- ---- elements
-
--- past the elements an array is blank
-module _ {A : Type 0} (blank : A) where
-  blanks : (k i : ℕ) → getD (replicate k blank) i blank ≡ blank
-  blanks zero i = refl
-  blanks (suc k) zero = refl
-  blanks (suc k) (suc i) = blanks k i
-
-  and-blanks : (k : ℕ) (xs : List A) (i : ℕ) → getD (xs ++ replicate k blank) i blank ≡ getD xs i blank
-  and-blanks k [] i = blanks k i
-  and-blanks k (x ∷ xs) zero = refl
-  and-blanks k (x ∷ xs) (suc i) = and-blanks k xs i
-
-  pub filled-at : (n : ℕ) (xs : List A) (i : ℕ) → getD (filled n blank xs) i blank ≡ getD xs i blank
-  unfolding filled
-  filled-at n xs i = and-blanks (n - length xs) xs i
 
 module _ (p : Program) where
   pub sizes-are : length (p .objects) ≤ 400 → sizesIn (filled 400 0 (map (λ o. o .size) (p .objects))) ≡ sizes p
@@ -53,14 +38,14 @@ module _ (p : Program) where
       each : (g : ℕ) → sizesIn array g ≡ sizes p g
       each g =
           ⊎-elim
-          (λ b. sizes-inside array g b ∙ filled-at 0 400 (map (λ o. o .size) (p .objects)) g ∙ List·getD-map (λ (o : Object). o .size) (p .objects) g none)
+          (λ b. sizes-inside array g b ∙ getD-filled-map 400 (λ (o : Object). o .size) none (p .objects) g)
           (λ b. sizes-past array g b ∙ sym (ap (λ (o : Object). o .size) (List·getD-eq-default (p .objects) none (omega (arith, few, b)))))
           (below-or g 400)
 
   pub code-at : CodeAt (filled 2000 (line Instr.End) (map line (p .code))) 0 (p .code)
   code-at k h =
       let z : 0 + k ≡ k = omega arith in
-      rw z (filled-at (line Instr.End) 2000 (map line (p .code)) k ∙ List·getD-map line (p .code) k Instr.End)
+      rw z (getD-filled-map 2000 line Instr.End (p .code) k)
 
 -- ---- ranges
 
@@ -70,17 +55,12 @@ ends-most [] from k = omega arith
 ends-most (t ∷ ss) from zero = omega (arith, length-append t (joined ss))
 ends-most (t ∷ ss) from (suc k) = omega (arith, length-append t (joined ss), ends-most ss (from + length t) k)
 
-element-held : (t : List ℕ) (i : ℕ) → i < length t → holds t (getD t i 0) ≡ true
-element-held [] i h = absurd (omega arith)
-element-held (x ∷ t) zero h = holds-here x t
-element-held (x ∷ t) (suc i) h = holds-there (getD t i 0) x t (element-held t i (omega arith))
-
 members-below : (ss : List (List ℕ)) → ((k x : ℕ) → k < length ss → holds (getD ss k []) x ≡ true → x < 400) → (i : ℕ) → getD (joined ss) i 0 < 400
 unfolding joined
 members-below [] h i = omega arith
 members-below (t ∷ ss) h i =
     ⊎-elim
-    (λ b. rw (List·getD-append t (joined ss) 0 i b) (h 0 (getD t i 0) (omega arith) (element-held t i b)))
+    (λ b. rw (List·getD-append t (joined ss) 0 i b) (h 0 (getD t i 0) (omega arith) (holds-at t i b)))
     (λ b.
     let e : i ≡ length t + (i - length t) = omega arith in
     let q : getD (t ++ joined ss) i 0 ≡ getD (joined ss) (i - length t) 0 =
@@ -94,10 +74,10 @@ in-range p good =
     record {
       objects = good .objects-most;
       sets = sets-most p good;
-      lines = omega (arith, lines-most p good);
-      ends = λ s. rw (filled-at 0 400 (endsFrom 0 (p .sets)) s) (omega (arith, ends-most (p .sets) 0 s, joined-most p good));
+      lines = omega (arith, lines-bounds p good .1);
+      ends = λ s. rw (getD-filled 400 0 (endsFrom 0 (p .sets)) s) (omega (arith, ends-most (p .sets) 0 s, joined-most p good));
       members =
           λ i.
-          rw (filled-at 0 16384 (joined (p .sets)) i)
+          rw (getD-filled 16384 0 (joined (p .sets)) i)
           (members-below (p .sets) (λ k x h q. omega (arith, member-below p good k x h q, good .objects-most)) i);
     }

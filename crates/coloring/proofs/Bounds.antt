@@ -1,47 +1,32 @@
 -- What a routine that a file can say keeps inside its bounds: its sets' members and the objects and sets
 -- that its instructions name; and that the arrays hold all of it.
-use Prim.Native.Nat.{ℕ, zero, suc, _+_, _<_, _≤_}
+use Prim.Native.Nat.{ℕ, _+_, _<_, _≤_}
 use native.Mathlib.Omega.{arith}
 use mathlib.Core.Path.{_≡_, refl}
 use mathlib.Core.Logic.{⊎-elim}
 use mathlib.Core.List.{List, [], _∷_, _++_}
 use mathlib.Core.Bool.{Bool, true, false}
-use lib.ListN.{length, getD, length-append, length-map}
+use lib.ListN.{length, getD, length-append}
 use lib.Dec.{ltb, leb}
 use borrow.Author.Tests.{ltb-true, leb-true}
 use Rattle.numbers.specs.Number.{spell, groups}
 use Rattle.opcodes.specs.declared.Instr.{Instr}
-use Rattle.opcodes.specs.declared.Instr.the-variants.{End, Place, Add, Sub, Less, Load8, Load32, Put8, Put32, Write8, Write32, Jump, JumpIf, Alloc, Free, In, Out, Check8, Check32, CheckPut8, CheckPut32}
-use Rattle.opcodes.specs.Table.{partsOf}
-use Rattle.opcodes.specs.Ranges.{within, isKind}
-use Rattle.files.specs.Program.{Program, kindsOf}
+use Rattle.opcodes.specs.Ranges.{within}
+use Rattle.files.specs.Program.{Program}
 use Rattle.files.specs.Writing.{spellFile, spellAll, spellObject, spellSet, spellInstr, both, every, rising, goodSet, goodInstr, scopeOf}
-use Rattle.opcodes.specs.View.{view, extent}
+use Rattle.opcodes.specs.View.{inGlobal, atTemp, View, act, jump, jumpIf, store, check, view, bytes, extent}
 use Rattle.files.specs.Held.{joined}
-use Rattle.opcodes.proofs.Bounds.{within-bounds}
-use Rattle.files.proofs.SpelledObjects.{both-left, both-right}
-use Rattle.files.proofs.SpelledInstructions.{GoodParts, good-parts}
-use Rattle.files.proofs.RoundTrip.{Good}
+use Rattle.files.proofs.Tests.{no-test, both-left, both-right, every-head, every-tail}
+use Rattle.files.proofs.GoodInstructions.{Names, names}
+use Rattle.files.proofs.RoundTrip.{Good, set-good}
 use Rattle.coloring.specs.declared.Nature.{Nature}
 use Rattle.coloring.specs.declared.Nature.the-variants as nature
 use Rattle.coloring.specs.Nature.{putNature, natureOf}
 use Rattle.coloring.specs.Class.{holds, unsafeObject}
 use Rattle.coloring.specs.Unsafe.{unsafeSets}
-use Rattle.coloring.proofs.Members.{no-test, holds-cases, holds-nil}
+use Rattle.coloring.proofs.Members.{holds-cases, holds-nil}
 use Rattle.coloring.proofs.Chains.{some-place}
 use Rattle.coloring.proofs.Marking.{Named, here, there, sizes, From, own, listed, set-from, place-in}
-
--- ---- lists
-
-every-at : {A : Type 0} (test : A → Bool) (xs : List A) (d : A) (k : ℕ) → every test xs ≡ true → k < length xs → test (getD xs k d) ≡ true
-unfolding every
-every-at test [] d k h p = absurd (omega arith)
-every-at test (x ∷ xs) d k h p = go (test x) refl k p (λ g j q. every-at test xs d j g q)
-  where
-    go : (b : Bool) → test x ≡ b → (k : ℕ) → k < length (x ∷ xs) → (every test xs ≡ true → (j : ℕ) → j < length xs → test (getD xs j d) ≡ true) → test (getD (x ∷ xs) k d) ≡ true
-    go true e zero p rest = e
-    go true e (suc k) p rest = rest (rw (e, every) at h) k (omega arith)
-    go false e k p rest = no-test (rw (e, every) at h) refl
 
 -- ---- the sets' members
 
@@ -68,14 +53,8 @@ module _ (p : Program) (good : Good 1 p) where
   pub sets-most : length (p .sets) ≤ 400
   sets-most = leb-true (length (p .sets)) 400 (both-left (leb (length (p .sets)) 400) (every (goodSet objects) (p .sets)) (good .sets))
 
-  sets-good : every (goodSet objects) (p .sets) ≡ true
-  sets-good = both-right (leb (length (p .sets)) 400) (every (goodSet objects) (p .sets)) (good .sets)
-
   pub member-below : (k x : ℕ) → k < length (p .sets) → holds (getD (p .sets) k []) x ≡ true → x < objects
-  member-below k x h = set-below objects (getD (p .sets) k []) x (every-at (goodSet objects) (p .sets) [] k sets-good h)
-
-  pub lines-most : length (p .code) ≤ 1000
-  lines-most = within-bounds 1 1000 (length (p .code)) (good .code-most) .1
+  member-below k x h = set-below objects (getD (p .sets) k []) x (set-good p good k h)
 
   -- ---- what the instructions name
 
@@ -87,16 +66,6 @@ module _ (p : Program) (good : Good 1 p) where
   Bound nature.Check = Unit {0}
   Bound nature.Other = Unit {0}
 
-  kind-below : (kind g : ℕ) → isKind (kindsOf (p .objects)) kind g ≡ true → g < objects
-  kind-below kind g h =
-      let e : ltb g (length (kindsOf (p .objects))) ≡ true = go (ltb g (length (kindsOf (p .objects)))) refl in
-      let l : length (kindsOf (p .objects)) ≡ objects = length-map (p .objects) (λ o. o .kind) in
-      omega (arith, ltb-true g (length (kindsOf (p .objects))) e, l)
-    where
-      go : (b : Bool) → ltb g (length (kindsOf (p .objects))) ≡ b → ltb g (length (kindsOf (p .objects))) ≡ true
-      go true e = e
-      go false e = no-test (rw (e, isKind) at h) refl
-
   put-bound : (g k n : ℕ) → g < objects → Bound (putNature (sizes p g) g k n)
   put-bound g k n h = go (leb (k + n) (extent (sizes p g))) refl
     where
@@ -104,41 +73,17 @@ module _ (p : Program) (good : Good 1 p) where
       go true e = rw (e, putNature) tt
       go false e = rw (e, putNature) h
 
-  parts-good : (i : Instr) → goodInstr (scopeOf 1 p) i ≡ true → GoodParts (scopeOf 1 p) (partsOf i)
-  parts-good i h = good-parts (scopeOf 1 p) (partsOf i) h
-
-  nature-bound : (i : Instr) → goodInstr (scopeOf 1 p) i ≡ true → Bound (natureOf (sizes p) (view i))
-  nature-bound End h = tt
-  nature-bound (Instr.Set d n) h = tt
-  nature-bound (Place d g) h = tt
-  nature-bound (Add d a b) h = tt
-  nature-bound (Sub d a b) h = tt
-  nature-bound (Less d a b) h = tt
-  nature-bound (Load8 d a) h = tt
-  nature-bound (Load32 d a) h = tt
-  nature-bound (Put8 g k a) h = put-bound g k 1 (kind-below 0 g (parts-good (Put8 g k a) h .first))
-  nature-bound (Put32 g k a) h = put-bound g k 4 (kind-below 0 g (parts-good (Put32 g k a) h .first))
-  nature-bound (Write8 a b s) h = ltb-true s (length (p .sets)) (parts-good (Write8 a b s) h .third)
-  nature-bound (Write32 a b s) h = ltb-true s (length (p .sets)) (parts-good (Write32 a b s) h .third)
-  nature-bound (Jump q) h = tt
-  nature-bound (JumpIf a q) h = tt
-  nature-bound (Alloc d g a) h = tt
-  nature-bound (Free a) h = tt
-  nature-bound (In d) h = tt
-  nature-bound (Out a) h = tt
-  nature-bound (Check8 a c) h = tt
-  nature-bound (Check32 a c) h = tt
-  nature-bound (CheckPut8 g k c) h = tt
-  nature-bound (CheckPut32 g k c) h = tt
+  nature-bound : (v : View) → Names p v → Bound (natureOf (sizes p) v)
+  nature-bound (act x) n = tt
+  nature-bound (jump t) n = tt
+  nature-bound (jumpIf a t) n = tt
+  nature-bound (store (inGlobal g k w) b s) n = put-bound g k (bytes w) (n .0)
+  nature-bound (store (atTemp a w) b s) n = n
+  nature-bound (check aim c) n = tt
 
   named-bound : (n : Nature) (code : List Instr) → every (goodInstr (scopeOf 1 p)) code ≡ true → Named (sizes p) n code → Bound n
-  unfolding every
-  named-bound n (i ∷ is) g h = go (goodInstr (scopeOf 1 p) i) refl h (λ g′ k. named-bound n is g′ k)
-    where
-      go : (b : Bool) → goodInstr (scopeOf 1 p) i ≡ b → Named (sizes p) n (i ∷ is) → (every (goodInstr (scopeOf 1 p)) is ≡ true → Named (sizes p) n is → Bound n) → Bound n
-      go true e (here q) rest = rw q at (nature-bound i e)
-      go true e (there k) rest = rest (rw (e, every) at g) k
-      go false e k rest = no-test (rw (e, every) at g) refl
+  named-bound n (i ∷ is) g (here q) = rw q at (nature-bound (view i) (names p i (every-head (goodInstr (scopeOf 1 p)) i is g)))
+  named-bound n (i ∷ is) g (there k) = named-bound n is (every-tail (goodInstr (scopeOf 1 p)) i is g) k
 
   pub own-below : (g : ℕ) → Named (sizes p) (nature.Own g) (p .code) → g < objects
   own-below g h = named-bound (nature.Own g) (p .code) (good .code) h

@@ -12,7 +12,8 @@ use mathlib.Core.List.{List, [], _∷_, _++_}
 use mathlib.Core.Bool.{Bool, true, false}
 use lib.ListN.{length, getD}
 use Rattle.coloring.specs.Class.{holds, some, holdsBoth, unsafeObject, Neighbours, Chain, last, link, meets, join, classesOf, sameClass}
-use Rattle.coloring.proofs.Members.{no-test, test-false, both-left, both-right, both-true, some-here, some-there, some-cases, some-nil, some-at, some-map, unsafe-left, unsafe-right, holds-left, holds-right, holds-append, meets-at, at-meets}
+use Rattle.files.proofs.Tests.{no-test}
+use Rattle.coloring.proofs.Members.{test-false, both-left, both-right, both-true, some-here, some-there, some-cases, some-nil, some-at, some-map, unsafe-left, unsafe-right, holds-left, holds-right, holds-append, meets-at, at-meets}
 
 -- ---- chains
 

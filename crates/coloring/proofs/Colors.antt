@@ -15,7 +15,7 @@ use lib.Dec.{eqb, ltb}
 use borrow.Author.Tests.{eqb-true, eq-eqb, ltb-true, ltb-false}
 use Rattle.coloring.specs.Class.{unsafeObject, Chain, last, link, sameClass}
 use Rattle.coloring.specs.Color.{Legal, lowestFrom, lowest, first, classesBelow, colorOf}
-use Rattle.coloring.proofs.Members.{no-test}
+use Rattle.files.proofs.Tests.{no-test}
 use Rattle.coloring.proofs.Chains.{class-is-chain, set-class, class-trans, class-sym, class-self, class-unsafe}
 
 module _ (sets : List (List ℕ)) where

@@ -16,7 +16,7 @@ use borrow.Author.Tests.{ne-eqb}
 use Rattle.coloring.specs.Class.{unsafeObject, Chain}
 use Rattle.coloring.specs.Color.{lowest, first, classesBelow, colorOf}
 use Rattle.coloring.specs.Labels.{leads, leaders, tint, painted}
-use Rattle.coloring.proofs.Members.{no-test}
+use Rattle.files.proofs.Tests.{no-test}
 use Rattle.coloring.proofs.Chains.{class-is-chain, class-self, class-unsafe}
 use Rattle.coloring.proofs.Colors.{lowest-upto, lowest-in, lowest-least, first-one, color-safe, color-unsafe, color-together}
 use Rattle.coloring.proofs.Turns.{lead-own, lead-other, tint-own, tint-lower, tint-none}

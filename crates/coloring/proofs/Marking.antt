@@ -21,7 +21,7 @@ use Rattle.coloring.specs.Nature.{natureOf, putNature, sizesIn}
 use Rattle.coloring.specs.Unsafe.{sizeOf, unsafeSet, setsIn}
 use Rattle.coloring.specs.Class.{holds, Neighbours, Chain, last}
 use Rattle.coloring.specs.Labels.{touched, ownMarked, useMarked, ownsMarked, usesMarked}
-use Rattle.coloring.proofs.Members.{no-test}
+use Rattle.files.proofs.Tests.{no-test}
 use Rattle.coloring.proofs.Joining.{at, Sound, Together, Step, step-none, step-on, touched-step, touched-in, below-or, equal-or}
 
 -- ---- the natures of the code, and the sets that they name

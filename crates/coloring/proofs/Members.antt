@@ -1,19 +1,17 @@
 -- Membership: a list that holds an object, a list of lists of which some hold it, two lists that meet.
 use Prim.Native.Nat.{ℕ, zero, suc, _<_}
 use native.Mathlib.Omega.{arith}
-use mathlib.Core.Path.{_≡_, refl, sym, _∙_}
+use mathlib.Core.Path.{_≡_, refl}
 use mathlib.Core.Logic.{_⊎_, inl, inr, ⊎-elim}
 use mathlib.Core.List.{List, [], _∷_, _++_}
 use mathlib.Core.Bool.{Bool, true, false}
 use lib.ListN.{length, getD}
 use lib.Dec.{eqb}
 use borrow.Author.Tests.{eqb-true, eq-eqb}
+use Rattle.files.proofs.Tests.{no-test}
 use Rattle.coloring.specs.Class.{holds, some, holdsBoth, unsafeObject, meets}
 
 -- ---- tests
-
-pub no-test : {A : Type 0} {b : Bool} → b ≡ true → b ≡ false → A
-no-test p q = let z : _≡_ {A = Bool} true false = sym p ∙ q in absurd (mathlib.Core.Bool.true≢false z)
 
 -- a test is false where it cannot be true
 pub test-false : (b : Bool) → (b ≡ true → ⊥) → b ≡ false
@@ -47,6 +45,10 @@ module _ (test : List ℕ → Bool) where
       go : (b : Bool) → test s ≡ b → some test (s ∷ ss) ≡ true
       go true e = rw (e, some)
       go false e = rw (e, some) h
+
+  pub some-behind : (xs ys : List (List ℕ)) → some test ys ≡ true → some test (xs ++ ys) ≡ true
+  some-behind [] ys h = h
+  some-behind (x ∷ xs) ys h = some-there x (xs ++ ys) (some-behind xs ys h)
 
   pub some-cases : (s : List ℕ) (ss : List (List ℕ)) → some test (s ∷ ss) ≡ true → (test s ≡ true) ⊎ (some test ss ≡ true)
   unfolding some
@@ -106,6 +108,12 @@ holds-cases x y ys h = go (eqb x y) refl
 pub holds-nil : {A : Type 0} (x : ℕ) → holds [] x ≡ true → A
 unfolding holds
 holds-nil x h = no-test h refl
+
+-- by a place in the list
+pub holds-at : (t : List ℕ) (i : ℕ) → i < length t → holds t (getD t i 0) ≡ true
+holds-at [] i h = absurd (omega arith)
+holds-at (x ∷ t) zero h = holds-here x t
+holds-at (x ∷ t) (suc i) h = holds-there (getD t i 0) x t (holds-at t i (omega arith))
 
 pub holds-left : (x : ℕ) (s c : List ℕ) → holds s x ≡ true → holds (s ++ c) x ≡ true
 holds-left x [] c h = holds-nil x h

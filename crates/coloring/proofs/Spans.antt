@@ -10,7 +10,8 @@ use lib.Seq.{getD-append-add}
 use Rattle.files.specs.Held.{endsFrom, joined}
 use Rattle.coloring.specs.Class.{holds, Chain}
 use Rattle.coloring.specs.Labels.{touched, united, spanJoined, setJoined, setsJoined}
-use Rattle.coloring.proofs.Members.{no-test, holds-cases, holds-nil, holds-here, holds-there}
+use Rattle.files.proofs.Tests.{no-test}
+use Rattle.coloring.proofs.Members.{holds-cases, holds-nil, holds-here, holds-there}
 use Rattle.coloring.proofs.Turns.{united-same}
 use Rattle.coloring.proofs.Joining.{at, Sound, Together, together-sym, together-trans, Step, step-none, step-on, touched-step, touched-in, united-step, united-together}
 

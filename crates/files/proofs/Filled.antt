@@ -1,12 +1,14 @@
 -- Arrays that are filled from the front: laws for any length, so that no long list is ever computed. Assumes nothing.
-use mathlib.Core.Path.{_≡_, sym, ap, _∙_}
+use mathlib.Core.Path.{_≡_, refl, sym, ap, _∙_}
 use mathlib.Core.List.{List, [], _∷_, _++_, map, map-append, append-assoc, append-nil}
-use Prim.Native.Nat.{ℕ, suc, _+_, _-_, _<_, _≤_}
+use Prim.Native.Nat.{ℕ, zero, suc, _+_, _-_, _<_, _≤_}
 use native.Mathlib.Nat.{sub-zero, add-zero}
 use native.Mathlib.Omega.{arith}
-use lib.ListN.{length, take, set, replicate, getD, length-append, length-replicate, List·getD-append, length-map}
+use lib.ListN.{length, take, set, replicate, getD, length-append, length-replicate, length-map, List·getD-map}
 use lib.Seq.{sets, set-append-seam, take-append-seam}
-use Rattle.files.specs.Held.{filled}
+use Rattle.opcodes.specs.declared.Instr.{Instr}
+use Rattle.files.specs.declared.Line.{Line}
+use Rattle.files.specs.Held.{filled, line}
 
 module _ {A : Type 0} (n : ℕ) (blank : A) where
   -- nothing is filled in yet
@@ -38,9 +40,21 @@ module _ {A : Type 0} (n : ℕ) (blank : A) where
   unfolding filled
   take-filled xs i e = rw (e, take-append-seam)
 
-  pub getD-filled : (xs : List A) (i : ℕ) (d : A) → i < length xs → getD (filled n blank xs) i d ≡ getD xs i d
+  -- an element, or the blank where there is none
+  pub getD-filled : (xs : List A) (i : ℕ) → getD (filled n blank xs) i blank ≡ getD xs i blank
   unfolding filled
-  getD-filled xs i d h = List·getD-append xs (replicate (n - length xs) blank) d i h
+  getD-filled xs i = go (n - length xs) xs i
+    where
+      go : (k : ℕ) (xs : List A) (i : ℕ) → getD (xs ++ replicate k blank) i blank ≡ getD xs i blank
+      go zero [] i = refl
+      go (suc k) [] zero = refl
+      go (suc k) [] (suc i) = go k [] i
+      go k (x ∷ xs) zero = refl
+      go k (x ∷ xs) (suc i) = go k xs i
+
+-- what f gives for an element, where the blank is what it gives for none
+pub getD-filled-map : {A B : Type 0} (n : ℕ) (f : A → B) (none : A) (xs : List A) (i : ℕ) → getD (filled n (f none) (map f xs)) i (f none) ≡ f (getD xs i none)
+getD-filled-map n f none xs i = getD-filled n (f none) (map f xs) i ∙ List·getD-map f xs i none
 
 -- a loop that stores what f gives for each element that is done
 pub map-more : {A B : Type 0} (n : ℕ) (blank : B) (f : A → B) (done : List A) (x : A) {array : List B} {i : ℕ}
@@ -48,6 +62,16 @@ pub map-more : {A B : Type 0} (n : ℕ) (blank : B) (f : A → B) (done : List A
 map-more n blank f done x {array} {i} held counted h =
     ap (λ (l : List _). set l i (f x)) held ∙ filled-more n blank (map f done) (f x) i (rw length-map counted) h
     ∙ ap (filled n blank) (sym (map-append f done (x ∷ [])))
+
+-- the instructions of lines that hold them
+pub instrs-lines : (code : List Instr) → map (λ x. x .instr) (map line code) ≡ code
+instrs-lines [] = refl
+instrs-lines (i ∷ code) = ap (λ (l : List Instr). i ∷ l) (instrs-lines code)
+
+-- the lines that count are the code
+pub lines-filled : (n : ℕ) (blank : Line) (code : List Instr) → map (λ x. x .instr) (take (length code) (filled n blank (map line code))) ≡ code
+lines-filled n blank code =
+    ap (map (λ x. x .instr)) (take-filled n blank (map line code) (length code) (sym (length-map code line))) ∙ instrs-lines code
 
 -- a run of stores after another
 pub sets-append : {A : Type 0} (l : List A) (i : ℕ) (xs ys : List A) → sets l i (xs ++ ys) ≡ sets (sets l i xs) (i + length xs) ys

@@ -7,12 +7,16 @@
 -- that program (`RoundTrip.reads-back`); what is read is a good program and the file is byte for byte its
 -- spelling (`RoundTrip.one-spelling`), so a program has one spelling; both for each version by one law,
 -- number by number, object by object, list by list (`SpelledNumbers`, `SpelledObjects`,
--- `SpelledInstructions`, `SpelledLists`).
+-- `SpelledInstructions`, `SpelledLists`). What an instruction of a good routine names is there
+-- (`GoodInstructions.names`).
 --
 -- How the code comes to it: what judging a number answers (`Judging`); one object and one instruction
 -- (`OneObject`, `OneInstr`); the loops over them (`ObjectLoop`, `MemberLoop`, `SetLoop`, `CodeLoop`); arrays
--- of which the first elements count (`Filled`, `Parts`); the stages of a file (`Stages`).
+-- of which the first elements count (`Filled`, `Parts`), and lists of what they hold (`Tabulated`); two tests
+-- at once, and a test of every element (`Tests`); the stages of a file (`Stages`).
+pub mod Tests
 pub mod Filled
+pub mod Tabulated
 mod Judging
 mod OneObject
 mod ObjectLoop
@@ -25,5 +29,6 @@ mod Stages
 pub mod SpelledNumbers
 pub mod SpelledObjects
 pub mod SpelledInstructions
+pub mod GoodInstructions
 pub mod SpelledLists
 pub mod RoundTrip

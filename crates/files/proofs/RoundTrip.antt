@@ -4,26 +4,28 @@
 -- The file is cut into its six pieces (version, count and objects, sets, count and instructions). Each
 -- piece has its two laws in SpelledNumbers, SpelledObjects, SpelledInstructions and SpelledLists; here they are put side by side, in
 -- the order of `readFile`'s stages.
-use Prim.Native.Nat.{ℕ, _+_, _^_, _<_, _≤_}
+use Prim.Native.Nat.{ℕ, _^_, _<_, _≤_}
 use mathlib.Core.Path.{_≡_, refl, sym, ap, _∙_, subst, subst₂}
 use mathlib.Core.List.{List, [], _∷_, _++_, append-nil}
 use mathlib.Core.Bool.{Bool, true, false}
 use native.Mathlib.Omega.{arith}
-use lib.ListN.{length, length-map}
+use lib.ListN.{length, getD, length-map}
 use lib.Seq.{drop-length}
 use lib.Dec.{eqb, leb}
 use borrow.Author.Tests.{eqb-true, leb-true, le-leb, eq-eqb}
 use Rattle.numbers.specs.declared.Read.{Read}
+use Rattle.numbers.specs.declared.Refusal.{Refusal}
 use Rattle.numbers.specs.Number.{spell}
 use Rattle.files.specs.declared.Object.{Object}
+use Rattle.files.specs.declared.Outcome.{Outcome}
 use Rattle.opcodes.specs.declared.Instr.{Instr}
 use Rattle.opcodes.specs.Ranges.{Scope, hasSets, within}
 use Rattle.files.specs.Program.{Program, mostCode, longest, kindsOf}
 use Rattle.files.specs.Reading.{Parsed, got, Reading, whole, judged, readFile, afterVersion, afterObjectCount, afterObjects, afterSetCount, afterSets, afterCodeCount, afterCode, objectsFrom, setsFrom, codeFrom}
-use Rattle.files.specs.Writing.{spellFile, spellAll, spellObject, spellSet, spellSets, spellInstr, every, goodObject, goodSet, goodSets, goodInstr, goodProgram, scopeOf, both}
+use Rattle.files.specs.Writing.{spellFile, spellAll, spellObject, spellSet, spellSets, spellInstr, every, goodObject, rising, goodSet, goodSets, goodInstr, goodProgram, scopeOf, both}
 use Rattle.files.proofs.SpelledNumbers.{Stands, stands-nil, stands-append, stands-split, Judged, judged-of-read, read-of-judged}
 use Rattle.opcodes.proofs.Bounds.{within-bounds, within-true}
-use Rattle.files.proofs.SpelledObjects.{both-true, both-left, both-right}
+use Rattle.files.proofs.Tests.{both-true, both-left, both-right, every-at}
 use Rattle.files.proofs.SpelledInstructions.{Bounded}
 use Rattle.files.proofs.SpelledLists.{objects-of-read, read-of-objects, sets-of-read, read-of-sets, code-of-read, read-of-code}
 
@@ -80,6 +82,22 @@ module _ (version : ℕ) (p : Program) where
       (both-true ss _ (g .sets)
       (both-true cs _ (g .code-most)
       (both-true is ls (g .code) (le-leb (length (spellFile version p)) (longest version) (g .short))))))
+
+-- the code and the sets of a good program of version 1
+module _ (p : Program) (good : Good 1 p) where
+  pub lines-bounds : (1 ≤ length (p .code)) × (length (p .code) ≤ 1000)
+  lines-bounds = within-bounds 1 1000 (length (p .code)) (good .code-most)
+
+  pub set-good : (s : ℕ) → s < length (p .sets) → goodSet (length (p .objects)) (getD (p .sets) s []) ≡ true
+  set-good s l =
+      every-at (goodSet (length (p .objects))) (p .sets) [] s
+      (both-right (leb (length (p .sets)) 400) (every (goodSet (length (p .objects))) (p .sets)) (good .sets)) l
+
+  pub set-some : (s : ℕ) → s < length (p .sets) → 1 ≤ length (getD (p .sets) s [])
+  set-some s l =
+      let set : List ℕ = getD (p .sets) s [] in
+      within-bounds 1 (length (p .objects)) (length set)
+      (both-left (within 1 (length (p .objects)) (length set)) (rising (length (p .objects)) 0 set) (set-good s l)) .0
 
 -- ---- what is read is what is spelled
 
@@ -375,3 +393,11 @@ reads-back version small p e =
     let g : Good version p = good-of version p e in
     rw (le-leb (length (spellFile version p)) (longest version) (g .short), readFile)
     (read-of-pieces version small (spellFile version p) p g (pieces-of version p))
+
+-- ---- for those who hold what was read
+
+pub good-read : (version : ℕ) (file : List ℕ) (p : Program) → readFile version file ≡ whole p → Good version p
+good-read version file p e = good-of version p (one-spelling version file p e .good)
+
+pub whole-not-refused : {q : Refusal} → _≡_ {A = Outcome} (Outcome.Refused q) Outcome.Whole → ⊥
+whole-not-refused e = let z : _≡_ {A = ℕ} 0 1 = cc in omega arith

@@ -21,7 +21,7 @@ use Rattle.opcodes.specs.Ranges.{Scope, within, present, allowed, lastOpcode}
 use Rattle.files.specs.Reading.{cursor, judged, readInstr, afterOpcode, afterFirst, afterSecond, afterThird, operandAt}
 use Rattle.files.specs.Writing.{spellIf, spellParts, spellInstr, goodOperand, goodParts, goodInstr, both}
 use Rattle.files.proofs.SpelledNumbers.{Stands, stands-append, stands-split, Judged, judged-of-read, read-of-judged, Optional, optional-of-read, read-of-optional}
-use Rattle.files.proofs.SpelledObjects.{both-true, both-left, both-right}
+use Rattle.files.proofs.Tests.{both-true, both-left, both-right}
 
 -- ---- operands
 

@@ -20,7 +20,8 @@ use Rattle.files.specs.Reading.{Parsed, got, cursor, judged, readObject,
 use Rattle.files.specs.Writing.{spellAll, spellObject, spellSet, spellInstr, every, goodObject, goodSet, goodInstr, rising, both}
 use Rattle.files.proofs.SpelledNumbers.{Stands, stands-nil, stands-append, stands-split, judged-of-read, read-of-judged}
 use Rattle.opcodes.proofs.Bounds.{within-bounds}
-use Rattle.files.proofs.SpelledObjects.{both-true, both-left, both-right, object-of-read, read-of-object}
+use Rattle.files.proofs.Tests.{both-true, both-left, both-right, both-is, every-head, every-tail, every-cons}
+use Rattle.files.proofs.SpelledObjects.{object-of-read, read-of-object}
 use Rattle.files.proofs.SpelledInstructions.{Bounded, instr-of-read, read-of-instr}
 
 unfoldable pub many : {A : Type 0} → (one : ℕ → Parsed A) → (left at : ℕ) → (done : List A) → Parsed (List A)
@@ -58,7 +59,7 @@ module _ {A : Type 0} (one : ℕ → Parsed A) (spelling : A → List ℕ) (good
               whole = s .whole ∙ append-assoc done (a ∷ []) (s .things);
               number = ap suc (s .number);
               stood = stands-append (spelling a) (spellAll spelling (s .things)) (d .0) (s .stood);
-              passes = simp (d .1, every) (s .passes);
+              passes = every-cons good a (s .things) (d .1) (s .passes);
             }
         go ih (Parsed.refused q) r e = let z : _≡_ {A = ℕ} 0 1 = cc in absurd (omega arith)
 
@@ -70,18 +71,12 @@ module _ {A : Type 0} (one : ℕ → Parsed A) (spelling : A → List ℕ) (good
         let here : next ≡ at = omega (arith, s .ends) in
         rw (here, append-nil)
     read-of-several at next done (a ∷ things) s g =
-        go (good a) refl g (λ g′. read-of-several (at + length (spelling a)) next (done ++ a ∷ []) things (split .1) g′)
-      where
-        split : Stands file at (spelling a) (at + length (spelling a)) × Stands file (at + length (spelling a)) (spellAll spelling things) next
-        split = stands-split (spelling a) (spellAll spelling things) s
-
-        go : (b : Bool) → good a ≡ b → elim b as (λ _. Bool) [ true ↦ every good things | false ↦ false ] ≡ true
-            → (every good things ≡ true → many one (length things) (at + length (spelling a)) (done ++ a ∷ []) ≡ got ((done ++ a ∷ []) ++ things) next)
-            → many one (suc (length things)) at done ≡ got (done ++ a ∷ things) next
-        go true p g ih =
-            let read : one at ≡ got a (at + length (spelling a)) = up at (at + length (spelling a)) a (split .0) p in
-            rw (read, many) (ih g ∙ ap (λ (l : List A). got l next) (append-assoc done (a ∷ []) things))
-        go false p g ih = let z : _≡_ {A = ℕ} 0 1 = cc in absurd (omega arith)
+        let mid : ℕ = at + length (spelling a) in
+        let (first, rest) = stands-split (spelling a) (spellAll spelling things) s in
+        let read : one at ≡ got a mid = up at mid a first (every-head good a things g) in
+        rw (read, many)
+        (read-of-several mid next (done ++ a ∷ []) things rest (every-tail good a things g)
+        ∙ ap (λ (l : List A). got l next) (append-assoc done (a ∷ []) things))
 
 -- ---- objects, sets and instructions are read so
 
@@ -132,11 +127,6 @@ sets-many (suc left) objects file at done = go (readSet objects file at) (λ k s
 
 abbrev memberTest : (objects low : ℕ) → ℕ → Bool
 memberTest objects low n = elim (leb low n) [ true ↦ ltb n objects | false ↦ false ]
-
--- two tests at once, either way it is written
-both-is : (a b : Bool) → _≡_ {A = Bool} (both a b) (elim a [ true ↦ b | false ↦ false ])
-both-is true b = refl
-both-is false b = refl
 
 record Members (objects : ℕ) (file : List ℕ) (at left low : ℕ) (done all : List ℕ) (next : ℕ) : Type 0 where
   things : List ℕ

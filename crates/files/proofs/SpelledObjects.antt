@@ -17,27 +17,8 @@ use Rattle.opcodes.specs.Ranges.{within, isColor}
 use Rattle.files.specs.Program.{hasColors}
 use Rattle.files.specs.Reading.{cursor, judged, readObject, afterKind, afterSize, afterColor, sizeAt, colorAt}
 use Rattle.files.specs.Writing.{spellIf, spellObject, goodObject, both}
+use Rattle.files.proofs.Tests.{both-true, both-left, both-right}
 use Rattle.files.proofs.SpelledNumbers.{Stands, stands-append, stands-split, Judged, judged-of-read, read-of-judged, goodIf, Optional, optional-of-read, read-of-optional}
-
--- ---- two tests at once
-
-pub both-true : (a b : Bool) → a ≡ true → b ≡ true → both a b ≡ true
-both-true true b p q = q
-both-true false b p q = p
-
-pub both-left : (a b : Bool) → both a b ≡ true → a ≡ true
-both-left true b p = refl
-both-left false b p = p
-
-pub both-right : (a b : Bool) → both a b ≡ true → b ≡ true
-both-right true b p = p
-both-right false b p = let z : _≡_ {A = ℕ} 0 1 = cc in absurd (omega arith)
-
-pub both-are : {a b : Bool} → a ≡ true → b ≡ true → both a b ≡ true
-both-are {a} {b} p q = both-true a b p q
-
-pub both-each : (a b : Bool) → both a b ≡ true → (a ≡ true) × (b ≡ true)
-both-each a b e = (both-left a b e, both-right a b e)
 
 -- a color that stands there or does not is at most 255
 pub color-most : (b : Bool) (n : ℕ) → goodIf b isColor n ≡ true → n ≤ 255

@@ -11,7 +11,7 @@ use Rattle.coloring.specs.Class.{unsafeObject}
 use Rattle.coloring.specs.Colored.{colorIn, classCount}
 use Rattle.coloring.proofs.Colors.{color-safe, color-low, color-high}
 use Rattle.coloring.proofs.Bounds.{unsafe-below}
-use Rattle.instrumenter.proofs.Good.{good-of}
+use Rattle.files.proofs.RoundTrip.{good-of}
 
 pub record FileColors (sets : List (List ℕ)) (color : ℕ → ℕ) : Type 0 where
   pub safe : (x : ℕ) → unsafeObject sets x ≡ false → color x ≡ 0

@@ -15,7 +15,9 @@ use Rattle.coloring.specs.Colored.{tinted, colorIn, classCount}
 use Rattle.coloring.proofs.Tinted.{tinted-length}
 use Rattle.layout.specs.Layout.{piecesOf, fits}
 use Rattle.instrumenter.specs.Instrumented.{guarded, newPlace, instrumented}
-use Rattle.instrumenter.proofs.Good.{both-true, within-true, Good, good-of, lines-bounds}
+use Rattle.files.proofs.Tests.{both-true}
+use Rattle.files.proofs.RoundTrip.{Good, good-of, lines-bounds}
+use Rattle.opcodes.proofs.Bounds.{within-true}
 use Rattle.instrumenter.proofs.FileColors.{FileColors, file-colors}
 use Rattle.instrumenter.proofs.Spans.{length-guarded, span-most, span-least, place-inside}
 use Rattle.instrumenter.proofs.Operands.{in-range, is-color, good-tinted, kinds-tinted, newScope, good-guarded}

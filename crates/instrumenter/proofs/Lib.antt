@@ -15,7 +15,6 @@
 -- one instruction at a time (`Turns`); over the arrays that hold a routine they give its version 2
 -- (`Stored`, `Matching`, `Version`); and at each return what is known is the reason for what is answered
 -- (`Told`).
-pub mod Good
 pub mod Inside
 pub mod FileColors
 pub mod Spans

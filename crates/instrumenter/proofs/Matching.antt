@@ -6,11 +6,11 @@ use mathlib.Core.List.{List, [], _∷_, _++_, map}
 use mathlib.Core.Bool.{Bool, true, false}
 use lib.ListN.{length, getD}
 use lib.Dec.{leb, ltb}
-use borrow.Author.Tests.{ltb-true, lt-ltb}
+use borrow.Author.Tests.{lt-ltb}
 use Rattle.opcodes.specs.declared.Instr.{Instr}
 use Rattle.opcodes.specs.declared.Instr.the-variants.{End, Place, Add, Sub, Less, Load8, Load32, Put8, Put32, Write8, Write32, Jump, JumpIf, Alloc, Free, In, Out, Check8, Check32, CheckPut8, CheckPut32}
 use Rattle.files.specs.Program.{Program}
-use Rattle.files.specs.Writing.{both, every, goodInstr, scopeOf}
+use Rattle.files.specs.Writing.{every, goodInstr, scopeOf}
 use Rattle.opcodes.specs.View.{inGlobal, atTemp, View, act, jump, jumpIf, store, check, view, checkInstr, bytes, extent}
 use Rattle.files.specs.Held.{filled, endsFrom, joined}
 use Rattle.coloring.specs.Unsafe.{sizeOf}
@@ -20,8 +20,10 @@ use Rattle.coloring.specs.Nature.{putNature, natureOf, sizesIn}
 use Rattle.coloring.proofs.Tinted.{tinted-size}
 use Rattle.instrumenter.specs.Instrumented.{checkOf, moved, guarded, spanOf}
 use Rattle.instrumenter.specs.Arrays.{checkFor, firstIn, checkNature, checkIn, guardedIn, spanIn}
-use Rattle.instrumenter.proofs.Good.{both-left, both-right, Good, every-head, every-tail}
-use Rattle.instrumenter.proofs.Inside.{GoodStore, good-store, set-some, first-below}
+use Rattle.files.proofs.Tests.{every-head, every-tail}
+use Rattle.files.proofs.GoodInstructions.{Names, names}
+use Rattle.files.proofs.RoundTrip.{Good, set-some}
+use Rattle.instrumenter.proofs.Inside.{first-below}
 use Rattle.instrumenter.proofs.Stored.{size-at, color-at, first-at}
 
 abbrev pub sizesHeld : (color : ℕ → ℕ) → Program → List ℕ
@@ -53,18 +55,18 @@ module _ (p : Program) (r : Good 1 p) (color : ℕ → ℕ) where
       go true = refl
       go false = refl
 
-  check-matches : (v : View) → GoodStore p r v
+  check-matches : (v : View) → Names p v
       → checkNature (colorsHeld color p) (endsHeld p) (membersHeld p) v (natureOf (sizesIn (sizesHeld color p)) v) ≡ checkOf color p v
   check-matches (act x) g = refl
   check-matches (jump t) g = refl
   check-matches (jumpIf a t) g = refl
   check-matches (store (inGlobal o k w) b s) g =
-      let low : ltb o 400 ≡ true = lt-ltb o 400 (omega (arith, g, r .objects-most)) in
+      let low : ltb o 400 ≡ true = lt-ltb o 400 (omega (arith, g .0, r .objects-most)) in
       let size : sizesIn (sizesHeld color p) o ≡ sizeOf (p .objects) o =
       rw (low, sizesIn) (size-at 400 (tinted color 0 (p .objects)) o ∙ tinted-size color 0 (p .objects) o)
       in
       by-nature (store (inGlobal o k w) b s) (sizesIn (sizesHeld color p) o) o k (bytes w)
-      ∙ ap₂ (λ (n c : ℕ). pick (leb (k + bytes w) (extent n)) (checkInstr (inGlobal o k w) c ∷ [])) size (color-at 400 color (p .objects) o g)
+      ∙ ap₂ (λ (n c : ℕ). pick (leb (k + bytes w) (extent n)) (checkInstr (inGlobal o k w) c ∷ [])) size (color-at 400 color (p .objects) o (g .0))
   check-matches (store (atTemp a w) b s) g =
       let first : firstIn (endsHeld p) (membersHeld p) s ≡ getD (getD (p .sets) s []) 0 0 = first-at 400 16384 (p .sets) s g (set-some p r s g) in
       ap (λ (x : ℕ). checkInstr (atTemp a w) (getD (colorsHeld color p) x 0) ∷ []) first
@@ -73,7 +75,7 @@ module _ (p : Program) (r : Good 1 p) (color : ℕ → ℕ) where
 
   pub check-held : (i : Instr) → goodInstr (scopeOf 1 p) i ≡ true → checksHeld color p i ≡ checkOf color p (view i)
   unfolding checkIn
-  check-held i h = check-matches (view i) (good-store p r i h)
+  check-held i h = check-matches (view i) (names p i h)
 
   -- ---- places
 
@@ -88,7 +90,7 @@ module _ (p : Program) (r : Good 1 p) (color : ℕ → ℕ) where
   -- ---- code
 
   module _ (target other : ℕ → ℕ) (agree : (t : ℕ) → t < length (p .code) → target t ≡ other t) where
-    moved-same : (i : Instr) → goodInstr (scopeOf 1 p) i ≡ true → moved target i ≡ moved other i
+    moved-same : (i : Instr) → Names p (view i) → moved target i ≡ moved other i
     moved-same End h = refl
     moved-same (Instr.Set d n) h = refl
     moved-same (Place d g) h = refl
@@ -101,8 +103,8 @@ module _ (p : Program) (r : Good 1 p) (color : ℕ → ℕ) where
     moved-same (Put32 g k a) h = refl
     moved-same (Write8 a b s) h = refl
     moved-same (Write32 a b s) h = refl
-    moved-same (Jump t) h = ap (λ (x : ℕ). Jump x) (agree t (ltb-true t (length (p .code)) (both-left (ltb t (length (p .code))) true h)))
-    moved-same (JumpIf a t) h = ap (λ (x : ℕ). JumpIf a x) (agree t (ltb-true t (length (p .code)) (both-left (ltb t (length (p .code))) true (both-right (ltb a 16) (both (ltb t (length (p .code))) true) h))))
+    moved-same (Jump t) h = ap (λ (x : ℕ). Jump x) (agree t h)
+    moved-same (JumpIf a t) h = ap (λ (x : ℕ). JumpIf a x) (agree t h)
     moved-same (Alloc d g a) h = refl
     moved-same (Free a) h = refl
     moved-same (In d) h = refl
@@ -117,5 +119,5 @@ module _ (p : Program) (r : Good 1 p) (color : ℕ → ℕ) where
     guarded-held [] h = refl
     guarded-held (i ∷ code) h =
         let g : goodInstr (scopeOf 1 p) i ≡ true = every-head (goodInstr (scopeOf 1 p)) i code h in
-        ap₂ (λ (c : List Instr) (j : Instr). c ++ j ∷ guardedIn (checksHeld color p) target code) (check-held i g) (moved-same i g)
+        ap₂ (λ (c : List Instr) (j : Instr). c ++ j ∷ guardedIn (checksHeld color p) target code) (check-held i g) (moved-same i (names p i g))
         ∙ ap (λ (l : List Instr). checkOf color p (view i) ++ moved other i ∷ l) (guarded-held code (every-tail (goodInstr (scopeOf 1 p)) i code h))

@@ -16,13 +16,16 @@ use Rattle.files.specs.Program.{Program, kindsOf}
 use Rattle.files.specs.Writing.{both, every, goodObject, goodInstr, scopeOf}
 use Rattle.opcodes.specs.View.{View, act, jump, jumpIf, store, check, view, checkInstr}
 use Rattle.coloring.specs.Unsafe.{safeAim, setOf, unsafeSet, setsIn, unsafeSets}
-use Rattle.coloring.specs.Class.{unsafeObject}
+use Rattle.coloring.specs.Class.{holds, unsafeObject}
+use Rattle.coloring.proofs.Members.{some-behind}
 use Rattle.coloring.specs.Colored.{tinted}
 use Rattle.instrumenter.specs.Instrumented.{colorOfSet, checkOf, moved, guarded}
 use Rattle.instrumenter.proofs.FileColors.{FileColors}
-use Rattle.coloring.proofs.Members.{no-test}
-use Rattle.instrumenter.proofs.Good.{both-left, both-right, both-true, within-true, Good, every-head, every-tail, every-cons, every-append}
-use Rattle.instrumenter.proofs.Inside.{GoodStore, good-store, store-unsafe, unsafe-later}
+use Rattle.files.proofs.Tests.{no-test, both-left, both-right, both-true, every-head, every-tail, every-cons, every-append}
+use Rattle.files.proofs.GoodInstructions.{Names, names}
+use Rattle.files.proofs.RoundTrip.{Good}
+use Rattle.opcodes.proofs.Bounds.{within-true}
+use Rattle.instrumenter.proofs.Inside.{store-unsafe}
 use Rattle.instrumenter.proofs.Spans.{check-safe, check-unsafe}
 
 -- ---- objects
@@ -137,7 +140,7 @@ module _ (p : Program) (r : Good 1 p) (lines : ℕ) (target : ℕ → ℕ) (insi
   good-check (CheckPut8 g k c) h = tt
   good-check (CheckPut32 g k c) h = tt
 
-  checks-in : (color : ℕ → ℕ) (v : View) (rest : List (List ℕ)) → GoodStore p r v → GoodCheck v
+  checks-in : (color : ℕ → ℕ) (v : View) (rest : List (List ℕ)) → Names p v → GoodCheck v
       → ((x : ℕ) → unsafeObject (unsafeSet p v ++ rest) x ≡ true → within 2 255 (color x) ≡ true)
       → every (goodInstr (newScope p lines)) (checkOf color p v) ≡ true
   unfolding every
@@ -164,9 +167,9 @@ module _ (p : Program) (r : Good 1 p) (lines : ℕ) (target : ℕ → ℕ) (insi
   good-guarded color (i ∷ code) h tint =
       let g : goodInstr (scopeOf 1 p) i ≡ true = every-head (goodInstr (scopeOf 1 p)) i code h in
       every-append (goodInstr (newScope p lines)) (checkOf color p (view i)) (moved target i ∷ guarded color p target code)
-      (checks-in color (view i) (setsIn p code) (good-store p r i g) (good-check i g) tint)
+      (checks-in color (view i) (setsIn p code) (names p i g) (good-check i g) tint)
       (every-cons (goodInstr (newScope p lines)) (moved target i) (guarded color p target code)
       (good-moved i g)
       (good-guarded color code
       (every-tail (goodInstr (scopeOf 1 p)) i code h)
-      (λ x u. tint x (unsafe-later x (unsafeSet p (view i)) (setsIn p code) u))))
+      (λ x u. tint x (some-behind (λ t. holds t x) (unsafeSet p (view i)) (setsIn p code) u))))

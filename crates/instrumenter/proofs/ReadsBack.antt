@@ -13,7 +13,7 @@ use Rattle.layout.specs.Layout.{piecesOf, fits}
 use Rattle.instrumenter.specs.Instrumented.{instrumented}
 use Rattle.instrumenter.specs.Answer.{Answer, file, instrument}
 use native.Mathlib.Omega.{arith}
-use Rattle.instrumenter.proofs.Good.{one-spelling, reads-back}
+use Rattle.files.proofs.RoundTrip.{one-spelling, reads-back}
 use Rattle.instrumenter.proofs.Instrumenting.{instrumented-good}
 use Rattle.instrumenter.proofs.Answers.{fitting, newFile, Because, unread, crowded, overfull, cramped, written, answered-because}
 

@@ -2,50 +2,31 @@
 -- its code and its objects.
 use Prim.Native.Nat.{ℕ, zero, suc, _+_, _-_, _<_, _≤_}
 use native.Mathlib.Omega.{arith}
-use mathlib.Core.Path.{_≡_, refl, sym, _∙_, ap}
+use mathlib.Core.Path.{_≡_, refl, _∙_, ap}
 use mathlib.Core.List.{List, [], _∷_, _++_, map}
-use lib.ListN.{length, getD, take, replicate, length-append, length-map, List·getD-map, List·getD-append}
-use lib.Seq.{take-at, take-append-le, getD-append-add, ext-getD}
-use Rattle.layout.proofs.Pieces.{length-tabulate, getD-tabulate}
+use lib.ListN.{length, getD, take, replicate, length-append, List·getD-append}
+use lib.Seq.{take-append-le, getD-append-add, ext-getD}
 use Rattle.files.specs.declared.Object.{Object}
 use Rattle.opcodes.specs.declared.Instr.{Instr}
 use Rattle.files.specs.declared.Line.{Line}
+use Rattle.files.proofs.Tabulated.{length-tabulate, getD-tabulate-zero}
+use Rattle.files.proofs.Filled.{getD-filled, getD-filled-map, instrs-lines}
 use Rattle.files.specs.Held.{filled, line, endsFrom, joined, tabulate}
 use Rattle.coloring.specs.Unsafe.{sizeOf}
 use Rattle.coloring.specs.Colored.{tinted}
+use Rattle.coloring.proofs.Tinted.{tinted-color}
 use Rattle.instrumenter.specs.Arrays.{startIn, firstIn, instrsIn}
 use Rattle.instrumenter.proofs.Cases.{start-first, start-later}
 
--- ---- a filled array
-
--- an element of what fills it, or else the blank
-pub getD-filled : {A : Type 0} (n : ℕ) (b : A) (xs : List A) (i : ℕ) → getD (filled n b xs) i b ≡ getD xs i b
-unfolding filled
-getD-filled {A = A} n b xs i = go (n - length xs) xs i
-  where
-    go : (k : ℕ) (xs : List A) (i : ℕ) → getD (xs ++ replicate k b) i b ≡ getD xs i b
-    go zero [] i = refl
-    go (suc k) [] zero = refl
-    go (suc k) [] (suc i) = go k [] i
-    go k (x ∷ xs) zero = refl
-    go k (x ∷ xs) (suc i) = go k xs i
+-- ---- sizes and colors
 
 pub size-at : (n : ℕ) (os : List Object) (g : ℕ) → getD (filled n 0 (map (λ o. o .size) os)) g 0 ≡ sizeOf os g
-size-at n os g =
-    getD-filled n 0 (map (λ o. o .size) os) g
-    ∙ List·getD-map (λ (o : Object). o .size) os g (record { kind = 0; size = 0; color = 0 })
-
-tint-at : (color : ℕ → ℕ) (from : ℕ) (os : List Object) (x : ℕ) → x < length os → getD (map (λ o. o .color) (tinted color from os)) x 0 ≡ color (from + x)
-unfolding tinted
-tint-at color from [] x l = absurd (omega arith)
-tint-at color from (o ∷ os) zero l = let e : from ≡ from + 0 = omega arith in ap color e
-tint-at color from (o ∷ os) (suc x) l =
-    let e : from + 1 + x ≡ from + suc x = omega arith in tint-at color (from + 1) os x (omega arith) ∙ ap color e
+size-at n os g = getD-filled-map n (λ (o : Object). o .size) (record { kind = 0; size = 0; color = 0 }) os g
 
 pub color-at : (n : ℕ) (color : ℕ → ℕ) (os : List Object) (x : ℕ) → x < length os → getD (filled n 0 (map (λ o. o .color) (tinted color 0 os))) x 0 ≡ color x
 color-at n color os x l =
     let e : 0 + x ≡ x = omega arith in
-    getD-filled n 0 (map (λ o. o .color) (tinted color 0 os)) x ∙ tint-at color 0 os x l ∙ ap color e
+    getD-filled n 0 (map (λ o. o .color) (tinted color 0 os)) x ∙ tinted-color color 0 os x l ∙ ap color e
 
 -- ---- sets
 
@@ -83,10 +64,6 @@ first-at n m sets s l h =
 
 -- ---- code
 
-instrs-lines : (code : List Instr) → map (λ (x : Line). x .instr) (map line code) ≡ code
-instrs-lines [] = refl
-instrs-lines (i ∷ code) = ap (λ (l : List Instr). i ∷ l) (instrs-lines code)
-
 pub code-at : (n : ℕ) (b : Line) (code : List Instr) (t : ℕ) → t ≤ length code → take t (instrsIn (filled n b (map line code))) ≡ take t code
 unfolding filled
 code-at n b code t l =
@@ -95,21 +72,10 @@ code-at n b code t l =
     ∙ ap (λ (c : List Instr). take t (c ++ map (λ (x : Line). x .instr) rest)) (instrs-lines code)
     ∙ take-append-le t code (map (λ (x : Line). x .instr) rest) l
 
--- the lines that count, as a program's code
-pub lines-at : (n : ℕ) (b : Line) (code : List Instr) → map (λ (x : Line). x .instr) (take (length code) (filled n b (map line code))) ≡ code
-unfolding filled
-lines-at n b code =
-    ap (map (λ (x : Line). x .instr)) (take-at (map line code) (replicate (n - length (map line code)) b) (length code) (length-map code line))
-    ∙ instrs-lines code
-
 -- ---- objects
 
 abbrev none : Object
 none = record { kind = 0; size = 0; color = 0 }
-
-field-at : (n : ℕ) (os : List Object) (f : Object → ℕ) → f none ≡ 0 → (i : ℕ) → getD (filled n 0 (map f os)) i 0 ≡ f (getD os i none)
-field-at n os f z i =
-    getD-filled n 0 (map f os) i ∙ ap (λ (d : ℕ). getD (map f os) i d) (sym z) ∙ List·getD-map f os i none
 
 -- the object that the three arrays have at a place
 abbrev pub objectIn : (kinds sizes colors : List ℕ) (i : ℕ) → Object
@@ -125,11 +91,9 @@ objects-at n os = ext-getD none (tabulate f 0 (length os)) os (length-tabulate f
     each : (i : ℕ) → i < length (tabulate f 0 (length os)) → getD (tabulate f 0 (length os)) i none ≡ getD os i none
     each i h =
         let l : i < length os = omega (arith, length-tabulate f 0 (length os)) in
-        let e : 0 + i ≡ i = omega arith in
-        getD-tabulate f 0 (length os) i none l
-        ∙ ap f e
+        getD-tabulate-zero f (length os) i none l
         ∙ (λ j. record {
-          kind = field-at n os (λ o. o .kind) refl i j;
-          size = field-at n os (λ o. o .size) refl i j;
-          color = field-at n os (λ o. o .color) refl i j;
+          kind = getD-filled-map n (λ (o : Object). o .kind) none os i j;
+          size = getD-filled-map n (λ (o : Object). o .size) none os i j;
+          color = getD-filled-map n (λ (o : Object). o .color) none os i j;
         })

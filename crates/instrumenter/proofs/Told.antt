@@ -1,5 +1,5 @@
 -- What the code has in hand at each of its answers gives the reason for that answer, and so the answer.
-use Prim.Native.Nat.{ℕ, _+_, _<_, _≤_}
+use Prim.Native.Nat.{ℕ, _<_, _≤_}
 use native.Mathlib.Omega.{arith}
 use mathlib.Core.Path.{_≡_, refl, sym, _∙_, ap, subst}
 use mathlib.Core.List.{List, [], _∷_, _++_}
@@ -27,7 +27,7 @@ use Rattle.layout.proofs.Pieces.{pieces-held}
 use Rattle.instrumenter.specs.declared.Instrumented.{Instrumented}
 use Rattle.instrumenter.specs.Answer.{Answer, file, laidOut, answerFor, instrument, roomHolding, told}
 use Rattle.instrumenter.specs.Arrays.{Version2}
-use Rattle.instrumenter.proofs.Good.{one-spelling, good-of, lines-bounds}
+use Rattle.files.proofs.RoundTrip.{one-spelling, good-of, lines-bounds}
 use Rattle.instrumenter.proofs.Instrumenting.{instrumented-good}
 use Rattle.instrumenter.proofs.Answers.{fitting, newFile, overfull, cramped, written, answers}
 use Rattle.instrumenter.proofs.Version.{file-is, writable-is}

@@ -1,15 +1,16 @@
 -- The two passes, one instruction at a time.
-use Prim.Native.Nat.{ℕ, suc, _+_, _*_, _-_, _<_, _≤_}
+use Prim.Native.Nat.{ℕ, _+_, _*_, _<_, _≤_}
 use native.Mathlib.Omega.{arith}
 use native.Mathlib.Numerals.{add-one}
-use mathlib.Core.Path.{_≡_, refl, sym, _∙_, ap, ap₂}
-use mathlib.Core.List.{List, [], _∷_, _++_, map, append-assoc, append-nil, map-append}
-use lib.ListN.{length, getD, take, set, replicate, length-append, length-map, length-set, List·getD-map}
-use lib.Seq.{take-suc, set-append-seam, getD-set-same, getD-set-other}
+use mathlib.Core.Path.{_≡_, refl, sym, _∙_, ap}
+use mathlib.Core.List.{List, [], _∷_, _++_, map, append-assoc, append-nil}
+use lib.ListN.{length, getD, take, set, length-append, length-map, length-set, List·getD-map}
+use lib.Seq.{take-suc, getD-set-same, getD-set-other}
 use native.Mathlib.Decide.{decLt}
 use Rattle.opcodes.specs.declared.Instr.{Instr}
 use Rattle.files.specs.declared.Line.{Line}
 use Rattle.files.specs.Held.{filled, line}
+use Rattle.files.proofs.Filled.{map-more}
 use Rattle.instrumenter.specs.Instrumented.{moved}
 use Rattle.instrumenter.specs.Arrays.{guardedIn, spanIn, instrsIn, asList}
 use Rattle.instrumenter.specs.declared.checks.Before.{Before}
@@ -46,14 +47,6 @@ pub take-more : (code : List Line) (at : ℕ) → at < length code → take (at 
 take-more code at l =
     let l′ : at < length (instrsIn code) = rw length-map l in
     rw (add-one at, take-suc (instrsIn code) at Instr.End l′, List·getD-map (λ (x : Line). x .instr) code at blank)
-
--- an array that is filled from the front
-pub filled-more : {A : Type 0} (n : ℕ) (b : A) (xs : List A) (y : A) → length xs < n → set (filled n b xs) (length xs) y ≡ filled n b (xs ++ y ∷ [])
-unfolding filled
-filled-more n b xs y l =
-    let e : n - length xs ≡ suc (n - length (xs ++ y ∷ [])) = rw length-append (omega arith) in
-    rw (e, set-append-seam xs b (replicate (n - length (xs ++ y ∷ [])) b) y)
-    (sym (append-assoc xs (y ∷ []) (replicate (n - length (xs ++ y ∷ [])) b)))
 
 -- what stands in the array after the first `at` instructions
 pub record Upto (checks : Instr → List Instr) (target : ℕ → ℕ) (code : List Line) (lines at next : ℕ) (out : List Line) : Type 0 where
@@ -109,15 +102,6 @@ pub record Half (checks : Instr → List Instr) (target : ℕ → ℕ) (code : L
   pub next-most : next ≤ 2 * at + 1
   pub out-is : out ≡ filled 2000 blank (map line (guardedIn checks target (take at (instrsIn code)) ++ checks i))
 
--- one instruction more in the array
-stored : (is : List Instr) (k : Instr) (next : ℕ) (out : List Line) → next ≡ length is → next < 2000 → out ≡ filled 2000 blank (map line is)
-    → set out next (line k) ≡ filled 2000 blank (map line (is ++ k ∷ []))
-stored is k next out n l o =
-    let e : next ≡ length (map line is) = n ∙ sym (length-map is line) in
-    ap₂ (λ (x : List Line) (y : ℕ). set x y (line k)) o e
-    ∙ filled-more 2000 blank (map line is) (line k) (rw (← e) l)
-    ∙ ap (filled 2000 blank) (sym (map-append line is (k ∷ [])))
-
 module _ (checks : Instr → List Instr) (target : ℕ → ℕ) (code : List Line) (lines : ℕ) where
   pub upto-none : Upto checks target code lines 0 0 (filled 2000 blank [])
   unfolding guardedIn
@@ -133,7 +117,7 @@ module _ (checks : Instr → List Instr) (target : ℕ → ℕ) (code : List Lin
           next-is = ne ∙ ap (λ (x : ℕ). x + 1) (u .next-is) ∙ sym (length-append done (k ∷ [])) ∙ ap (λ (l : List Instr). length (done ++ l)) c;
           next-most = omega arith;
           out-is =
-              oe ∙ stored done k next out (u .next-is) (omega arith) (u .out-is)
+              oe ∙ map-more 2000 blank line done k (u .out-is) (u .next-is) (omega arith)
               ∙ ap (λ (l : List Instr). filled 2000 blank (map line (done ++ l))) c;
         }
 
@@ -169,5 +153,5 @@ module _ (checks : Instr → List Instr) (target : ℕ → ℕ) (code : List Lin
         inside = omega arith;
         next-is = ap (λ (x : ℕ). x + 1) (h .next-is) ∙ sym (length-append (done ++ checks i) (r ∷ [])) ∙ ap length e;
         next-most = omega arith;
-        out-is = stored (done ++ checks i) r next out (h .next-is) (omega arith) (h .out-is) ∙ ap (λ (x : List Instr). filled 2000 blank (map line x)) e;
+        out-is = map-more 2000 blank line (done ++ checks i) r (h .out-is) (h .next-is) (omega arith) ∙ ap (λ (x : List Instr). filled 2000 blank (map line x)) e;
       }

@@ -20,9 +20,11 @@ use Rattle.coloring.specs.Colored.{tinted, withColors}
 use Rattle.coloring.proofs.Tinted.{tinted-length}
 use Rattle.instrumenter.specs.Instrumented.{instrumented, guarded, newPlace}
 use Rattle.instrumenter.specs.Arrays.{Version2, guardedIn, spanIn, instrsIn}
-use Rattle.instrumenter.proofs.Good.{both-true, Good, every-take, lines-bounds}
+use Rattle.files.proofs.Tests.{both-true, every-take}
+use Rattle.files.proofs.Filled.{lines-filled}
+use Rattle.files.proofs.RoundTrip.{Good, lines-bounds}
 use Rattle.instrumenter.proofs.Spans.{length-guarded, span-most}
-use Rattle.instrumenter.proofs.Stored.{code-at, lines-at, objectIn, objects-at}
+use Rattle.instrumenter.proofs.Stored.{code-at, objectIn, objects-at}
 use Rattle.instrumenter.proofs.Turns.{blank}
 use Rattle.instrumenter.proofs.Matching.{checksHeld, span-held, guarded-held}
 
@@ -55,7 +57,7 @@ module _ (p : Program) (r : Good 1 p) (color : ℕ → ℕ) (q : Loaded) (w : Ve
   code-shown : map (λ (x : Line). x .instr) (take (q .lines) (q .code)) ≡ newCode
   code-shown =
       ap₂ (λ (n : ℕ) (l : List Line). map (λ (x : Line). x .instr) (take n l)) lines-are (w .coded .code-is ∙ ap (λ (c : List Instr). filled 2000 blank (map line c)) code-is)
-      ∙ lines-at 2000 blank newCode
+      ∙ lines-filled 2000 blank newCode
 
   objects-shown : tabulate (objectAt q) 0 (q .objects) ≡ tinted color 0 (p .objects)
   objects-shown =

@@ -7,19 +7,19 @@
 use Prim.Native.Nat.{ℕ, zero, suc, _+_, _<_}
 use mathlib.Core.Path.{_≡_, refl, sym, _∙_, ap}
 use mathlib.Core.Bool.{Bool, true, false}
-use mathlib.Core.List.{List, [], _∷_}
+use mathlib.Core.List.{List}
 use native.Mathlib.Omega.{arith}
-use native.Mathlib.Nat.{not-suc-le-zero, le-of-suc-le-suc}
 use lib.ListN.{length, getD, set, length-map}
-use lib.Dec.{ltb, eqb}
+use lib.Dec.{ltb}
 use borrow.Author.Tests.{ltb-true, ltb-false}
 use Rattle.opcodes.specs.declared.Instr.{Instr}
 use Rattle.opcodes.specs.Ranges.{isKind}
 use Rattle.files.specs.Program.{Program, kindsOf}
 use Rattle.opcodes.specs.View.{Aim, inGlobal, atTemp, Act, View, act, jump, jumpIf, store, check, view}
 use Rattle.files.specs.Writing.{every, goodInstr, scopeOf}
-use Rattle.files.proofs.SpelledObjects.{both-left, both-right}
-use Rattle.heap.specs.Heap.{Made, Freed, Alloc, Free, alloc}
+use Rattle.opcodes.proofs.Bounds.{kind-below}
+use Rattle.files.proofs.Tests.{both-left, both-right, every-at}
+use Rattle.heap.specs.Heap.{Made, Freed, Alloc, alloc}
 use Rattle.machine.specs.State.{Rule, Given, State, temp}
 use Rattle.machine.specs.Step.{Next, stop, next, conclude, allocating, perform, step, becomes}
 use Rattle.machine.specs.Runs.{Outcome, stopped, runFrom}
@@ -119,30 +119,6 @@ module _ {S : Type 0} (code : List Instr) (start start′ : ℕ → ℕ) (allows
 
 -- ---- an accepted file names objects that there are
 
-kind-inside : (kinds : List ℕ) (kind g : ℕ) → isKind kinds kind g ≡ true → g < length kinds
-kind-inside kinds kind g e = go (ltb g (length kinds)) refl e
-  where
-    go : (b : Bool) → ltb g (length kinds) ≡ b → elim b [ true ↦ eqb (getD kinds g 0) kind | false ↦ false ] ≡ true → g < length kinds
-    go true t q = ltb-true _ _ t
-    go false t q = absurd (never q)
-      where
-        never : _≡_ {A = Bool} false true → ⊥
-        never z = let x : _≡_ {A = ℕ} 0 1 = cc in omega arith
-
-pub every-at : {A : Type 0} (test : A → Bool) (xs : List A) (i : ℕ) (d : A) → every test xs ≡ true → i < length xs → test (getD xs i d) ≡ true
-unfolding every
-every-at {A = A} test [] i d e h = absurd (not-suc-le-zero h)
-every-at {A = A} test (x ∷ xs) i d e h = go (test x) refl e i h (every-at test xs)
-  where
-    go : (b : Bool) → test x ≡ b → elim b [ true ↦ every test xs | false ↦ false ] ≡ true → (i : ℕ) → i < length (x ∷ xs)
-        → ((j : ℕ) (d : A) → every test xs ≡ true → j < length xs → test (getD xs j d) ≡ true) → test (getD (x ∷ xs) i d) ≡ true
-    go true t q zero l later = t
-    go true t q (suc j) l later = later j d q (le-of-suc-le-suc l)
-    go false t q j l later = absurd (never q)
-      where
-        never : _≡_ {A = Bool} false true → ⊥
-        never z = let x : _≡_ {A = ℕ} 0 1 = cc in omega arith
-
 module _ {S : Type 0} (p : Program) (start start′ : ℕ → ℕ) (allows : S → View → (address n : ℕ) → Bool)
     (making making′ : S → (site : ℕ) → Made → S) (freeing : S → (address : ℕ) → Freed → S) (given : Given)
     (same : (g : ℕ) → g < length (p .objects) → start g ≡ start′ g) where
@@ -150,7 +126,7 @@ module _ {S : Type 0} (p : Program) (start start′ : ℕ → ℕ) (allows : S �
   Fine v = Agrees (p .code) start start′ allows making making′ freeing given v
 
   global : (g : ℕ) → isKind (kindsOf (p .objects)) 0 g ≡ true → start g ≡ start′ g
-  global g e = same g (omega (arith, kind-inside (kindsOf (p .objects)) 0 g e, length-map (p .objects) (λ o. o .kind)))
+  global g e = same g (omega (arith, kind-below (kindsOf (p .objects)) 0 g e, length-map (p .objects) (λ o. o .kind)))
 
   names-objects : (i : Instr) → goodInstr (scopeOf 2 p) i ≡ true → Fine (view i)
   names-objects Instr.End e = tt
@@ -177,4 +153,4 @@ module _ {S : Type 0} (p : Program) (start start′ : ℕ → ℕ) (allows : S �
   names-objects (Instr.CheckPut32 x y z) e = global x (both-left _ _ e)
 
   pub agrees : every (goodInstr (scopeOf 2 p)) (p .code) ≡ true → (at : ℕ) → at < length (p .code) → Fine (view (getD (p .code) at Instr.End))
-  agrees good at h = names-objects (getD (p .code) at Instr.End) (every-at (goodInstr (scopeOf 2 p)) (p .code) at Instr.End good h)
+  agrees good at h = names-objects (getD (p .code) at Instr.End) (every-at (goodInstr (scopeOf 2 p)) (p .code) Instr.End at good h)

@@ -48,6 +48,20 @@ Proper Site (Act.free a) = Unit {0}
 Proper Site (Act.input d) = Unit {0}
 Proper Site (Act.output a) = Unit {0}
 
+-- what is asked of the site of an ALLOC is all
+pub proper : (Site : ℕ → Type 0) (x : Act) → ((d g a : ℕ) → x ≡ Act.alloc d g a → Site g) → Proper Site x
+proper Site Act.end h = tt
+proper Site (Act.set d n) h = tt
+proper Site (Act.place d g) h = tt
+proper Site (Act.add d a b) h = tt
+proper Site (Act.sub d a b) h = tt
+proper Site (Act.less d a b) h = tt
+proper Site (Act.load d a w) h = tt
+proper Site (Act.alloc d g a) h = h d g a refl
+proper Site (Act.free a) h = tt
+proper Site (Act.input d) h = tt
+proper Site (Act.output a) h = tt
+
 module _ {S T : Type 0} (Tie : S → T → List ℕ → Type 0) (May : Reason → Type 0) where
   -- an effect that follows another
   abbrev pub Follows : Effect S → Effect T → Type 0

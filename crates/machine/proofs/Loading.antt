@@ -4,29 +4,31 @@
 -- from them is the definition's: the pieces and their layout, the instructions, the first table
 -- (`Starting`), and the rule (`Agreeing`). `runs-program` puts them together: a run of what is held is
 -- the run of the program, or refusal 9. `run_file` adds the refusals before it.
-use Prim.Native.Nat.{ℕ, zero, suc, _+_, _-_, _*_, _<_, _≤_}
+use Prim.Native.Nat.{ℕ, zero, suc, _+_, _*_, _<_, _≤_}
 use mathlib.Core.Path.{_≡_, refl, sym, _∙_, ap, subst}
 use mathlib.Core.Bool.{Bool, true, false}
-use mathlib.Core.List.{List, [], _∷_, _++_, map}
+use mathlib.Core.List.{List, [], _∷_, map}
 use native.Mathlib.Omega.{arith}
 use native.Mathlib.Nat.{not-suc-le-zero}
-use lib.ListN.{length, getD, take, replicate, length-map, List·getD-eq-default}
-use lib.Seq.{take-at}
-use lib.Dec.{ltb, leb}
+use lib.ListN.{length, getD, take, List·getD-eq-default}
+use lib.Dec.{ltb}
 use borrow.Author.Tests.{leb-true, ltb-true, ltb-false, eq-eqb, ne-eqb, le-leb, lt-leb}
 use Rattle.numbers.specs.declared.Refusal.{Refusal}
 use Rattle.opcodes.specs.declared.Instr.{Instr}
+use Rattle.files.specs.declared.Object.{Object}
 use Rattle.files.specs.declared.Outcome.{Outcome}
 use Rattle.files.specs.declared.Loaded.{Loaded}
-use Rattle.opcodes.specs.Ranges.{within}
 use Rattle.files.specs.Program.{Program}
 use Rattle.files.specs.Reading.{Reading, whole, refusal, readFile}
 use Rattle.files.specs.Writing.{scopeOf}
 use Rattle.files.specs.Held.{filled, tabulate, line, heldAs, held}
-use Rattle.files.proofs.RoundTrip.{Good, good-of, one-spelling}
+use Rattle.opcodes.proofs.Bounds.{within-bounds}
+use Rattle.files.proofs.Tabulated.{length-tabulate, getD-tabulate-zero}
+use Rattle.files.proofs.Filled.{getD-filled, getD-filled-map, lines-filled}
+use Rattle.files.proofs.RoundTrip.{Good, good-read, whole-not-refused}
 use Rattle.layout.specs.declared.Layout.{Layout}
 use Rattle.layout.specs.Layout.{Piece, piecesOf, startOf, endOf, fits, total, safeSpace, unsafeSpace, unsafeFrom, layoutOf}
-use Rattle.layout.proofs.Pieces.{length-tabulate, getD-tabulate, pieces-held}
+use Rattle.layout.proofs.Pieces.{pieces-held}
 use Rattle.heap.specs.Memory.{memorySize, tableSize}
 use Rattle.heap.specs.Heap.{paintMade, paintFreed, emptyHeap}
 use Rattle.heap.specs.Lent.{started}
@@ -39,7 +41,7 @@ use Rattle.machine.specs.Colors.{tableAllows, colorOfObject, tableRule, 
 use Rattle.machine.specs.Running.{Lent, Answer, refuse, leaves, runProgram, runReading, runFile}
 use Rattle.machine.specs.Turn.{heldRule, Low, AllNarrow, codeOf, lentOf, answered, runHeld}
 use Rattle.machine.specs.Start.{piecesHeld, laidTable, Runnable, runLoaded}
-use Rattle.machine.proofs.Starting.{field-held, getD-padded, start-is, laid-first}
+use Rattle.machine.proofs.Starting.{noObject, start-is, laid-first}
 use Rattle.machine.proofs.Agreeing.{same-runs, agrees}
 use Rattle.machine.proofs.Temporaries.{narrow-code}
 
@@ -60,16 +62,12 @@ start-low os g = go (getD os g (record { kind = 0; size = 0; safe = true }) .saf
     go false = omega (arith, total-take unsafeSpace os g)
 
 pub low-starts : (os : List Piece) → endOf os ≤ 28672 → Low (layoutOf os .starts)
-unfolding filled
-low-starts os fit g =
-    let one : getD (tabulate (startOf os) 0 (length os) ++ replicate (400 - length (tabulate (startOf os) 0 (length os))) 0) g 0 ≡ getD (tabulate (startOf os) 0 (length os)) g 0 =
-    getD-padded (tabulate (startOf os) 0 (length os)) (400 - length (tabulate (startOf os) 0 (length os))) g in
-    go (ltb g (length os)) refl one
+low-starts os fit g = go (ltb g (length os)) refl (getD-filled 400 0 (tabulate (startOf os) 0 (length os)) g)
   where
     go : (b : Bool) → ltb g (length os) ≡ b → {x : ℕ} → x ≡ getD (tabulate (startOf os) 0 (length os)) g 0 → x ≤ 28672
     go true e one =
-        let at : getD (tabulate (startOf os) 0 (length os)) g 0 ≡ startOf os (0 + g) = getD-tabulate (startOf os) 0 (length os) g 0 (ltb-true _ _ e) in
-        omega (arith, start-low os (0 + g))
+        let at : getD (tabulate (startOf os) 0 (length os)) g 0 ≡ startOf os g = getD-tabulate-zero (startOf os) (length os) g 0 (ltb-true _ _ e) in
+        omega (arith, start-low os g)
     go false e one =
         let past : length os ≤ g = ltb-false _ _ e in
         let none : getD (tabulate (startOf os) 0 (length os)) g 0 ≡ 0 =
@@ -105,15 +103,6 @@ module _ (l : Loaded) (input : List ℕ) (limit : ℕ) (lent : Lent) {lay : Layo
 
 -- ---- a program that is held
 
-code-held : (code : List Instr) → codeOf (filled 2000 (line Instr.End) (map line code)) (length code) ≡ code
-unfolding filled
-code-held code =
-    ap (map (λ x. x .instr)) (take-at (map line code) (replicate (2000 - length (map line code)) (line Instr.End)) (length code) (length-map code line)) ∙ back code
-  where
-    back : (l : List Instr) → map (λ x. x .instr) (map line l) ≡ l
-    back [] = refl
-    back (i ∷ is) = ap (λ r. i ∷ r) (back is)
-
 module _ (p : Program) (good : Good 2 p) (input : List ℕ) (limit : ℕ) (lent : Lent)
     (memory : length (lent .memory) ≡ memorySize) (table : length (lent .table) ≡ tableSize) where
   abbrev starts : List ℕ
@@ -132,7 +121,7 @@ module _ (p : Program) (good : Good 2 p) (input : List ℕ) (limit : ℕ) (lent 
   rules-run fit turns state =
       same-runs (p .code) (λ g. getD starts g 0) (startOf (piecesOf (p .objects))) tableAllows
       (λ t site k. paintMade t (getD colors site 0) k) (λ t site k. paintMade t (colorOfObject (p .objects) site) k) (λ t address f. paintFreed t f) given
-      (λ own site k. ap (λ n. paintMade own n k) (field-held (λ o. o .color) refl (p .objects) site))
+      (λ own site k. ap (λ n. paintMade own n k) (getD-filled-map 400 (λ (o : Object). o .color) noObject (p .objects) site))
       (agrees p (λ g. getD starts g 0) (startOf (piecesOf (p .objects))) tableAllows
       (λ t site k. paintMade t (getD colors site 0) k) (λ t site k. paintMade t (colorOfObject (p .objects) site) k) (λ t address f. paintFreed t f) given
       (start-is (p .objects) (good .objects-most) fit) (good .code))
@@ -148,7 +137,7 @@ module _ (p : Program) (good : Good 2 p) (input : List ℕ) (limit : ℕ) (lent 
       ≡ runProgram input limit lent p
   unfolding runs tableRule
   run-held fit =
-      (λ i. runHeld (code-held (p .code) i) starts colors input limit (lentOf (blank-memory i) (laid-first p (lent .table) (good .objects-most) fit table i) (lent .room)))
+      (λ i. runHeld (lines-filled 2000 (line Instr.End) (p .code) i) starts colors input limit (lentOf (blank-memory i) (laid-first p (lent .table) (good .objects-most) fit table i) (lent .room)))
       ∙ ap (leaves (lent .room)) (rules-run fit ((limit + 1) * (length (p .code) + 1)) (startState (firstTable p)))
 
   pub runs-program : runLoaded (heldAs Outcome.Whole p) input limit lent ≡ runReading input limit lent (whole p)
@@ -177,9 +166,6 @@ module _ (p : Program) (good : Good 2 p) (input : List ℕ) (limit : ℕ) (lent 
 
 -- ---- the refusals, and a whole file
 
-whole-not-refused : {q : Refusal} → _≡_ {A = Outcome} (Outcome.Refused q) Outcome.Whole → ⊥
-whole-not-refused e = let x : _≡_ {A = ℕ} 0 1 = cc in omega arith
-
 module _ (file input : List ℕ) (limit : ℕ) (lent : Lent) where
   pub wrong-memory : {run : Run} → (length (lent .memory) ≡ memorySize → ⊥) → run ≡ refusedRun (refusal 11 0) → answered run lent ≡ runFile file input limit lent
   unfolding runFile
@@ -195,9 +181,6 @@ module _ (file input : List ℕ) (limit : ℕ) (lent : Lent) where
       exact : runReading input limit lent (readFile 2 file) ≡ runFile file input limit lent
       unfolding runFile
       exact = rw (eq-eqb (length (lent .memory)) memorySize memory, eq-eqb (length (lent .table)) tableSize table, runFile) refl
-
-      good : (p : Program) → readFile 2 file ≡ whole p → Good 2 p
-      good p e = good-of 2 p (one-spelling 2 file p e .good)
 
       pub refuses : {l : Loaded} {q : Refusal} {run : Run} → l ≡ held (readFile 2 file) → l .outcome ≡ Outcome.Refused q → run ≡ refusedRun q
           → answered run lent ≡ runFile file input limit lent
@@ -215,24 +198,14 @@ module _ (file input : List ℕ) (limit : ℕ) (lent : Lent) where
         where
           go : (r : Reading) → readFile 2 file ≡ r → Runnable (held r) lent
           go (whole p) e =
-              let g : Good 2 p = good p e in
+              let g : Good 2 p = good-read 2 file p e in
               record {
                 objects = g .objects-most;
-                lines = most (length (p .code)) (g .code-most);
-                temps = subst AllNarrow (sym (code-held (p .code))) (narrow-code (scopeOf 2 p) (p .code) (g .code));
+                lines = within-bounds 1 2000 (length (p .code)) (g .code-most) .1;
+                temps = subst AllNarrow (sym (lines-filled 2000 (line Instr.End) (p .code))) (narrow-code (scopeOf 2 p) (p .code) (g .code));
                 memory = memory;
                 table = table;
               }
-            where
-              most : (n : ℕ) → within 1 2000 n ≡ true → n ≤ 2000
-              most n w = between (leb 1 n) w
-                where
-                  between : (b : Bool) → elim b [ true ↦ leb n 2000 | false ↦ false ] ≡ true → n ≤ 2000
-                  between true q = leb-true _ _ q
-                  between false q = absurd (never q)
-                    where
-                      never : _≡_ {A = Bool} false true → ⊥
-                      never z = let x : _≡_ {A = ℕ} 0 1 = cc in omega arith
           go (Reading.refused q) e = record { objects = omega arith; lines = omega arith; temps = λ at h. absurd (not-suc-le-zero h); memory = memory; table = table }
 
       pub runs-whole : {l : Loaded} {x : Answer} → l ≡ held (readFile 2 file) → l .outcome ≡ Outcome.Whole → x ≡ runLoaded l input limit lent
@@ -241,5 +214,5 @@ module _ (file input : List ℕ) (limit : ℕ) (lent : Lent) where
           e ∙ ap (λ y. runLoaded y input limit lent) read ∙ go (readFile 2 file) refl (sym (ap (λ y. y .outcome) read) ∙ known) ∙ exact
         where
           go : (r : Reading) → readFile 2 file ≡ r → held r .outcome ≡ Outcome.Whole → runLoaded (held r) input limit lent ≡ runReading input limit lent r
-          go (whole p) q f = runs-program p (good p q) input limit lent memory table
+          go (whole p) q f = runs-program p (good-read 2 file p q) input limit lent memory table
           go (Reading.refused q′) q f = absurd (whole-not-refused f)

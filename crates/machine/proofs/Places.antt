@@ -1,11 +1,11 @@
 -- The place of a stop: the instructions that are no checks, counted one by one.
 use Prim.Native.Nat.{ℕ, zero, suc, _+_, _≤_, _<_}
 use mathlib.Core.Path.{_≡_, refl, sym, _∙_, ap, ap₂}
-use mathlib.Core.List.{List, [], _∷_, _++_, map}
+use mathlib.Core.List.{List, [], _∷_, _++_, map, map-append}
 use native.Mathlib.Omega.{arith}
 use native.Mathlib.Numerals.{add-one}
 use native.Mathlib.Nat.{not-suc-le-zero, le-of-suc-le-suc}
-use lib.ListN.{length, getD, take, length-map}
+use lib.ListN.{length, getD, take, length-map, List·getD-map}
 use lib.Seq.{take-suc, take-take, length-take-le, getD-take}
 use types.Run.{OneOf, miss}
 use denote.Enum.Declared.{tagOf}
@@ -55,17 +55,17 @@ take-instrs zero code = refl
 take-instrs (suc n) [] = refl
 take-instrs (suc n) (x ∷ xs) = ap (λ r. x .instr ∷ r) (take-instrs n xs)
 
-one-more : (xs : List Line) (x : Line) → placesIn (instrs (xs ++ x ∷ [])) ≡ placesIn (instrs xs) + counts (view (x .instr))
+pub places-more : (xs : List Instr) (x : Instr) → placesIn (xs ++ x ∷ []) ≡ placesIn xs + counts (view x)
 unfolding placesIn
-one-more [] x = omega arith
-one-more (y ∷ ys) x = omega (arith, one-more ys x)
+places-more [] x = omega arith
+places-more (y ∷ ys) x = omega (arith, places-more ys x)
 
 -- the count with one instruction more
 pub place-more : (code : List Line) (i : ℕ) {place one : ℕ} → i < length code → place ≡ placesIn (instrs (take i code))
     → one ≡ counts (view (getD code i blankLine .instr)) → place + one ≡ placesIn (instrs (take (i + 1) code))
 place-more code i h e f =
     ap₂ (λ x y. x + y) e f
-    ∙ sym (one-more (take i code) (getD code i blankLine))
+    ∙ sym (ap placesIn (map-append (λ x. x .instr) (take i code) (getD code i blankLine ∷ [])) ∙ places-more (instrs (take i code)) (getD code i blankLine .instr))
     ∙ ap (λ l. placesIn (instrs l)) (sym (take-suc code i blankLine h) ∙ ap (λ n. take n code) (sym (add-one i)))
 
 pub at-most-one : (v : View) → counts v ≤ 1
@@ -98,9 +98,5 @@ pub code-length : (code : List Line) (lines : ℕ) → lines ≤ length code →
 code-length code lines h = length-map (take lines code) (λ x. x .instr) ∙ length-take-le lines code h
 
 pub code-at : (code : List Line) (lines at : ℕ) → at < lines → getD (codeOf code lines) at Instr.End ≡ getD code at blankLine .instr
-code-at code lines at h = mapped (take lines code) at ∙ ap (λ x. x .instr) (getD-take lines code at blankLine h)
-  where
-    mapped : (l : List Line) (i : ℕ) → getD (instrs l) i Instr.End ≡ getD l i blankLine .instr
-    mapped [] i = refl
-    mapped (x ∷ xs) zero = refl
-    mapped (x ∷ xs) (suc i) = mapped xs i
+code-at code lines at h =
+    List·getD-map (λ (x : Line). x .instr) (take lines code) at blankLine ∙ ap (λ x. x .instr) (getD-take lines code at blankLine h)

@@ -1,22 +1,22 @@
 -- The table at the start, painted object by object from arrays, is the definition's first table.
 --
 -- The arrays hold each field of the objects, the first ones from the file and the others blank, so a
--- read at any index is the field of the object there (`field-held`). The start of a global is read off
+-- read at any index is the field of the object there (`getD-filled-map`). The start of a global is read off
 -- the layout, and with the layout's end at or below 28,672 every global's slots lie in the table, so
 -- that painting what the table has is painting. `paint-all` goes through the objects.
 use Prim.Native.Nat.{ℕ, zero, suc, _+_, _-_, _<_, _≤_}
 use mathlib.Core.Path.{_≡_, refl, sym, _∙_, ap}
 use mathlib.Core.Bool.{Bool, true, false}
-use mathlib.Core.List.{List, [], _∷_, _++_, map}
+use mathlib.Core.List.{List, [], _∷_, map}
 use native.Mathlib.Omega.{arith}
-use native.Mathlib.Nat.{not-suc-le-zero, le-of-suc-le-suc}
-use lib.ListN.{length, getD, drop, replicate, length-map, length-replicate}
+use lib.ListN.{length, getD, drop, replicate, length-map, length-replicate, List·getD-map}
 use lib.Dec.{eqb}
 use borrow.Author.Tests.{eq-eqb, ne-eqb, eqb-true}
 use Rattle.files.specs.declared.Object.{Object}
 use Rattle.opcodes.specs.View.{extent}
 use Rattle.files.specs.Held.{filled}
 use Rattle.files.specs.Program.{Program}
+use Rattle.files.proofs.Filled.{getD-filled-map}
 use Rattle.layout.specs.Layout.{pieceOf, piecesOf, startOf, endOf, layoutOf}
 use Rattle.layout.proofs.Places.{ends-below}
 use Rattle.layout.proofs.Pieces.{start-held}
@@ -67,34 +67,10 @@ module _ (starts kinds sizes colors : List ℕ) where
 abbrev pub noObject : Object
 noObject = record { kind = 0; size = 0; color = 0 }
 
-getD-map : {A : Type 0} (field : A → ℕ) (blank : A) → field blank ≡ 0 → (xs : List A) (g : ℕ) → getD (map field xs) g 0 ≡ field (getD xs g blank)
-getD-map field blank e [] g = sym e
-getD-map field blank e (x ∷ xs) zero = refl
-getD-map field blank e (x ∷ xs) (suc g) = getD-map field blank e xs g
-
-getD-zeros : (k g : ℕ) → _≡_ {A = ℕ} (getD (replicate k 0) g 0) 0
-getD-zeros zero g = refl
-getD-zeros (suc k) zero = refl
-getD-zeros (suc k) (suc g) = getD-zeros k g
-
-pub getD-padded : (xs : List ℕ) (k g : ℕ) → getD (xs ++ replicate k 0) g 0 ≡ getD xs g 0
-getD-padded [] k g = getD-zeros k g
-getD-padded (x ∷ xs) k zero = refl
-getD-padded (x ∷ xs) k (suc g) = getD-padded xs k g
-
-pub field-held : (field : Object → ℕ) → field noObject ≡ 0 → (os : List Object) (g : ℕ) → getD (filled 400 0 (map field os)) g 0 ≡ field (getD os g noObject)
-unfolding filled
-field-held field e os g = getD-padded (map field os) (400 - length (map field os)) g ∙ getD-map field noObject e os g
-
 pub length-paint : (table : List ℕ) (a n color : ℕ) → slot a + slot n ≤ length table → length (paint table a n color) ≡ length table
 length-paint table a n color h = length-fill table (slot a) (slot n) color h
 
 -- ---- all objects
-
-getD-pieces : (os : List Object) (g : ℕ) → g < length os → getD (piecesOf os) g (record { kind = 0; size = 0; safe = true }) ≡ pieceOf (getD os g noObject)
-getD-pieces [] g h = absurd (not-suc-le-zero h)
-getD-pieces (o ∷ os) zero h = refl
-getD-pieces (o ∷ os) (suc g) h = getD-pieces os g (le-of-suc-le-suc h)
 
 module _ (os : List Object) (most : length os ≤ 400) (fit : endOf (piecesOf os) ≤ 28672) where
   abbrev starts : List ℕ
@@ -126,7 +102,7 @@ module _ (os : List Object) (most : length os ≤ 400) (fit : endOf (piecesOf os
       → slot (startOf (piecesOf os) g) + slot (extent (getD os g noObject .size)) ≤ 3584
   slots-fit g h global =
       let long : length (piecesOf os) ≡ length os = length-map os pieceOf in
-      let is : getD (piecesOf os) g (record { kind = 0; size = 0; safe = true }) ≡ pieceOf (getD os g noObject) = getD-pieces os g h in
+      let is : getD (piecesOf os) g (record { kind = 0; size = 0; safe = true }) ≡ pieceOf (getD os g noObject) = List·getD-map pieceOf os g noObject in
       let size : getD (piecesOf os) g (record { kind = 0; size = 0; safe = true }) .size ≡ getD os g noObject .size = ap (λ x. x .size) is in
       let end : startOf (piecesOf os) g + extent (getD (piecesOf os) g (record { kind = 0; size = 0; safe = true }) .size) ≤ endOf (piecesOf os) =
       ends-below (piecesOf os) g (omega arith) (ap (λ x. x .kind) is ∙ global) in
@@ -137,9 +113,12 @@ module _ (os : List Object) (most : length os ≤ 400) (fit : endOf (piecesOf os
       → paintOne table (getD kinds g 0) (getD starts g 0) (getD sizes g 0) (getD colors g 0)
       ≡ paintBy (eqb (getD os g noObject .kind) 0) g table
   one-same g h table long =
-      (λ i. paintOne table (field-held (λ o. o .kind) refl os g i) (start-is g h i) (field-held (λ o. o .size) refl os g i) (field-held (λ o. o .color) refl os g i))
+      (λ i. paintOne table (field-at (λ o. o .kind) i) (start-is g h i) (field-at (λ o. o .size) i) (field-at (λ o. o .color) i))
       ∙ go (eqb (getD os g noObject .kind) 0) refl
     where
+      field-at : (field : Object → ℕ) → getD (filled 400 (field noObject) (map field os)) g (field noObject) ≡ field (getD os g noObject)
+      field-at field = getD-filled-map 400 field noObject os g
+
       go : (b : Bool) → eqb (getD os g noObject .kind) 0 ≡ b
           → paintedBy b g table
           ≡ paintBy b g table

@@ -18,10 +18,9 @@ use Rattle.files.specs.declared.Line.{Line}
 use Rattle.opcodes.specs.Table.{rowOf, partsOf}
 use Rattle.opcodes.specs.Ranges.{Scope, lastOpcode}
 use Rattle.files.specs.Writing.{both, every, goodOperand, goodInstr}
-use Rattle.files.proofs.SpelledObjects.{both-left, both-right}
+use Rattle.files.proofs.Tests.{both-left, both-right, every-at}
 use Rattle.machine.specs.Turn.{NarrowOperand, Narrow, AllNarrow, codeOf}
 use Rattle.machine.proofs.Places.{code-length, code-at}
-use Rattle.machine.proofs.Agreeing.{every-at}
 
 narrow-operand : (scope : Scope) (kind : Operand) (x : ℕ) → goodOperand scope kind x ≡ true → NarrowOperand 16 kind x
 narrow-operand scope Operand.None x e = tt
@@ -62,7 +61,7 @@ narrow-instr scope i e =
 
 pub narrow-code : (scope : Scope) (code : List Instr) → every (goodInstr scope) code ≡ true → AllNarrow code
 narrow-code scope code good at h =
-    narrow-instr scope (getD code at Instr.End) (every-at (goodInstr scope) code at Instr.End good h)
+    narrow-instr scope (getD code at Instr.End) (every-at (goodInstr scope) code Instr.End at good h)
 
 pub narrow-held : (code : List Line) (lines at : ℕ) → lines ≤ length code → at < lines → AllNarrow (codeOf code lines)
     → {n : ℕ} → n ≡ 16 → Narrow n (getD code at (record { instr = Instr.End }) .instr)

@@ -6,7 +6,7 @@ use mathlib.Core.Bool.{Bool, true, false}
 use native.Mathlib.Omega.{arith}
 use lib.ListN.{length, getD}
 use lib.Dec.{ltb, leb, eqb}
-use borrow.Author.Tests.{eqb-true, leb-true, ltb-true, le-leb}
+use borrow.Author.Tests.{eqb-true, leb-true, ltb-true, le-leb, lt-ltb}
 use Rattle.opcodes.specs.declared.Operand.{Operand}
 use Rattle.opcodes.specs.Table.{rowOf, make, fit, made}
 use Rattle.opcodes.specs.Ranges.{lastOpcode, within, isColor, isKind}
@@ -35,6 +35,11 @@ kind-below kinds kind g e = go (ltb g (length kinds)) refl e
     go : (b : Bool) → ltb g (length kinds) ≡ b → elim b as (λ _. Bool) [ true ↦ eqb (getD kinds g 0) kind | false ↦ false ] ≡ true → g < length kinds
     go true p e = ltb-true g (length kinds) p
     go false p e = let z : _≡_ {A = ℕ} 0 1 = cc in absurd (omega arith)
+
+pub kind-is : (kinds : List ℕ) (kind g : ℕ) → isKind kinds kind g ≡ true → getD kinds g 0 ≡ kind
+kind-is kinds kind g e =
+    let below : ltb g (length kinds) ≡ true = lt-ltb g (length kinds) (kind-below kinds kind g e) in
+    eqb-true (getD kinds g 0) kind (rw (below, isKind) at e)
 
 pub last-most : (version : ℕ) → lastOpcode version ≤ 21
 last-most version = go (eqb version 1)

@@ -5,7 +5,7 @@
 -- (`table.row_of`).
 --
 -- About the definitions, for the crates above: an instruction and its parts are two forms of one thing
--- (`Parting.parts-make`, `Parting.make-parts`); what a number that passes a test lies between, and that operands
--- in their ranges are held whole (`Bounds`).
+-- (`Parting.parts-make`, `Parting.make-parts`); what a number that passes a test lies between or names, and that
+-- operands in their ranges are held whole (`Bounds`).
 pub mod Bounds
 pub mod Parting

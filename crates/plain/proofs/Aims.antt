@@ -3,35 +3,23 @@
 use Prim.Native.Nat.{ℕ, zero, suc, _+_, _<_, _≤_}
 use native.Mathlib.Nat.{not-suc-le-zero, le-of-suc-le-suc}
 use native.Mathlib.Omega.{arith}
-use mathlib.Core.Path.{_≡_, refl, _∙_, ap, subst}
+use mathlib.Core.Path.{_≡_, _∙_, ap, subst}
 use mathlib.Core.List.{List, [], _∷_, _++_}
 use mathlib.Core.Bool.{Bool, true, false}
 use lib.ListN.{length, getD}
 use lib.Dec.{eqb}
-use borrow.Author.Tests.{eq-eqb, ne-eqb, le-leb}
+use borrow.Author.Tests.{ne-eqb, le-leb}
 use Rattle.opcodes.specs.declared.Instr.{Instr}
 use Rattle.files.specs.Program.{Program}
 use Rattle.opcodes.specs.View.{one, four, Aim, inGlobal, atTemp, store, view}
 use Rattle.coloring.specs.Unsafe.{safeAim, setOf, unsafeSet, setsIn, unsafeSets}
 use Rattle.coloring.specs.Class.{holds, some, unsafeObject}
+use Rattle.coloring.proofs.Members.{some-here, some-behind, holds-at}
 use Rattle.heap.specs.Memory.{memorySize, inside}
 use Rattle.machine.specs.Step.{widthOf}
 use Rattle.plain.proofs.Good.{Fine, Good}
 
 -- ---- sets
-
-some-here : (test : List ℕ → Bool) (s : List ℕ) (ss : List (List ℕ)) → test s ≡ true → some test (s ∷ ss) ≡ true
-unfolding some
-some-here test s ss e = rw (e, some)
-
-some-behind : (test : List ℕ → Bool) (xs ys : List (List ℕ)) → some test ys ≡ true → some test (xs ++ ys) ≡ true
-unfolding some
-some-behind test [] ys e = e
-some-behind test (x ∷ xs) ys e = go (some-behind test xs ys e) (test x) refl
-  where
-    go : some test (xs ++ ys) ≡ true → (b : Bool) → test x ≡ b → some test (x ∷ (xs ++ ys)) ≡ true
-    go later true e = rw (e, some)
-    go later false e = rw (e, some) later
 
 -- the set of an unsafe instruction counts
 in-sets : (p : Program) (test : List ℕ → Bool) (s : List ℕ) (code : List Instr) (k : ℕ) → k < length code
@@ -41,11 +29,6 @@ in-sets p test s [] k h e t = absurd (not-suc-le-zero h)
 in-sets p test s (i ∷ code) zero h e t = ap (λ l. some test (l ++ setsIn p code)) e ∙ some-here test s (setsIn p code) t
 in-sets p test s (i ∷ code) (suc k) h e t =
     some-behind test (unsafeSet p (view i)) (setsIn p code) (in-sets p test s code k (le-of-suc-le-suc h) e t)
-
-holds-first : (s : List ℕ) → 1 ≤ length s → holds s (getD s 0 0) ≡ true
-unfolding holds
-holds-first [] h = absurd (not-suc-le-zero h)
-holds-first (x ∷ xs) h = let e : eqb x x ≡ true = eq-eqb x x refl in rw (e, holds)
 
 module _ (p : Program) (good : Good p) (k : ℕ) (inCode : k < length (p .code)) (aim : Aim) (b s : ℕ)
     (is : view (getD (p .code) k Instr.End) ≡ store aim b s) (unsafe : safeAim p aim ≡ false) where
@@ -58,7 +41,7 @@ module _ (p : Program) (good : Good p) (k : ℕ) (inCode : k < length (p .code))
       let set : List ℕ = setOf p aim s in
       let named : unsafeSet p (store aim b s) ≡ set ∷ [] = rw (unsafe, unsafeSet) in
       in-sets p (λ l. holds l (getD set 0 0)) set (p .code) k inCode (ap (unsafeSet p) is ∙ named)
-      (holds-first set (not-empty aim (subst (Fine p) is (good .fines k inCode))))
+      (holds-at set 0 (not-empty aim (subst (Fine p) is (good .fines k inCode))))
 
 -- ---- bytes
 

@@ -13,10 +13,11 @@ use mathlib.Core.List.{List, [], _∷_, _++_}
 use mathlib.Core.Bool.{true, false}
 use lib.ListN.{length, getD}
 use lib.Dec.{eqb, leb}
-use borrow.Author.Tests.{eq-eqb, ne-eqb, le-leb}
+use borrow.Author.Tests.{eq-eqb, le-leb}
 use Rattle.heap.specs.Memory.{numberAt, colorAt}
 use Rattle.heap.specs.Heap.{endSlot, Block, isFree, blockAt, sound, blocks, withBlock, walkFrom}
 use Rattle.heap.proofs.Memory.{numberAt-same}
+use Rattle.heap.proofs.Walks.{walk-end, walk-goes}
 
 -- the color of a block's body: its site's, and 0 where the block is free
 abbrev pub tint : (color : ℕ → ℕ) → Block → ℕ
@@ -67,26 +68,15 @@ module _ (color : ℕ → ℕ) (m table : List ℕ) where
       let three : leb (b .header + 8 + b .size) endSlot ≡ true = le-leb (b .header + 8 + b .size) endSlot (omega (arith, s .header)) in
       rw (one, two, three, sound)
 
-  walk-end : (left from : ℕ) → eqb from endSlot ≡ true → walkFrom left m from ≡ blocks []
-  unfolding walkFrom
-  walk-end zero from e = rw (e, walkFrom)
-  walk-end (suc left) from e = rw (e, walkFrom)
-
-  walk-on : (left from : ℕ) → eqb from endSlot ≡ false → sound (blockAt m from) ≡ true
-      → walkFrom (suc left) m from ≡ withBlock (blockAt m from) (walkFrom left m (from + 8 + blockAt m from .size))
-  unfolding walkFrom
-  walk-on left from e s = rw (e, s, walkFrom)
-
   pub segment-walk : (left : ℕ) (bs : List Block) (from : ℕ) → Segment color m table from endSlot bs → length bs ≤ left
       → walkFrom left m from ≡ blocks bs
-  segment-walk left [] from s enough = walk-end left from (eq-eqb from endSlot s)
+  segment-walk left [] from s enough = walk-end m left from s
   segment-walk zero (b ∷ bs) from s enough = absurd (not-suc-le-zero enough)
   segment-walk (suc left) (b ∷ bs) from s enough =
       let is : blockAt m from ≡ b = blockAt-is from b (s .0) in
       let long : from + 8 + b .size + 16 * length bs ≤ endSlot = segment-long bs (from + 8 + b .size) endSlot (s .1) in
-      let before : eqb from endSlot ≡ false = ne-eqb from endSlot (λ e. omega arith) in
       let good : sound (blockAt m from) ≡ true = ap sound is ∙ sound-is from endSlot b (s .0) (omega arith) in
-      walk-on left from before good
+      walk-goes m left from (omega arith) good
       ∙ ap (λ x. withBlock x (walkFrom left m (from + 8 + x .size))) is
       ∙ ap (withBlock b) (segment-walk left bs (from + 8 + b .size) (s .1) (omega arith))
 

@@ -4,7 +4,7 @@ use Prim.Native.Nat.{ℕ, zero, suc, _+_, _<_, _≤_}
 use native.Mathlib.Numerals.{add-one}
 use native.Mathlib.Omega.{arith}
 use mathlib.Core.Path.{_≡_, refl, sym, _∙_, ap}
-use mathlib.Core.List.{List, [], _∷_, _++_}
+use mathlib.Core.List.{List}
 use mathlib.Core.Bool.{Bool, true, false}
 use lib.ListN.{length, getD, take}
 use lib.Dec.{ltb}
@@ -17,17 +17,13 @@ use Rattle.coloring.specs.Unsafe.{setOf}
 use Rattle.instrumenter.specs.Instrumented.{colorOfSet, moved}
 use Rattle.instrumenter.proofs.Guarded.{movedView, view-moved, view-check}
 use Rattle.machine.specs.Stop.{counts, placesIn, placeIn}
+use Rattle.machine.proofs.Places.{places-more}
 use Rattle.plain.specs.Guards.{instrAt, Stands, Guards}
-
-one-more : (xs : List Instr) (x : Instr) → placesIn (xs ++ x ∷ []) ≡ placesIn xs + counts (view x)
-unfolding placesIn
-one-more [] x = omega arith
-one-more (y ∷ ys) x = omega (arith, one-more ys x)
 
 -- the place behind an instruction
 place-behind : (code : List Instr) (n : ℕ) → n < length code → placeIn code (n + 1) ≡ placeIn code n + counts (view (getD code n Instr.End))
 place-behind code n inside =
-    ap (placeIn code) (add-one n) ∙ ap placesIn (take-suc code n Instr.End inside) ∙ one-more (take n code) (getD code n Instr.End)
+    ap (placeIn code) (add-one n) ∙ ap placesIn (take-suc code n Instr.End inside) ∙ places-more (take n code) (getD code n Instr.End)
 
 place-past : (code : List Instr) (n : ℕ) → length code ≤ n → placeIn code n ≡ placesIn code
 place-past code n past = ap placesIn (take-all n code past)

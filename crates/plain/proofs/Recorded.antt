@@ -7,12 +7,12 @@ use mathlib.Core.Bool.{Bool, true, false}
 use lib.ListN.{length, getD}
 use lib.Dec.{ltb}
 use Rattle.opcodes.specs.declared.Instr.{Instr}
-use Rattle.opcodes.specs.View.{Act, View, act, jump, jumpIf, store, check, view}
+use Rattle.opcodes.specs.View.{View, act, jump, jumpIf, store, check, view}
 use Rattle.heap.specs.Memory.{inside}
 use Rattle.machine.specs.declared.Reason.{Reason}
 use Rattle.machine.specs.State.{Rule, Given, State, addressOf}
 use Rattle.machine.specs.Step.{Effect, stops, passes, completes, Next, stop, next, widthOf, conclude, effect, lets, perform, step}
-use Rattle.machine.proofs.Effects.{image, Follows, Alike, Proper, follows-if, act-follows}
+use Rattle.machine.proofs.Effects.{image, Follows, Alike, proper, follows-if, act-follows}
 use Rattle.plain.specs.Live.{Live}
 use Rattle.plain.specs.Demands.{Reaches, recording}
 
@@ -42,22 +42,9 @@ module _ {S : Type 0} (rule : Rule S) (given : Given) where
         broken′ = λ own own′ m address tie e. tt;
       }
 
-  proper : (x : Act) → Proper (λ g. Unit {0}) x
-  proper Act.end = tt
-  proper (Act.set d n) = tt
-  proper (Act.place d g) = tt
-  proper (Act.add d a b) = tt
-  proper (Act.sub d a b) = tt
-  proper (Act.less d a b) = tt
-  proper (Act.load d a w) = tt
-  proper (Act.alloc d g a) = tt
-  proper (Act.free a) = tt
-  proper (Act.input d) = tt
-  proper (Act.output a) = tt
-
   module _ (r : State (S × List Live)) where
     effect-follows : (v : View) → Follows Shows Any (effect (recording rule) given r v) (effect rule given (shown r) v)
-    effect-follows (act x) = act-follows Shows Any (recording rule) rule (λ g. Unit {0}) alike given r (r .at) (r .own .0) refl x (proper x)
+    effect-follows (act x) = act-follows Shows Any (recording rule) rule (λ g. Unit {0}) alike given r (r .at) (r .own .0) refl x (proper (λ g. Unit {0}) x (λ d g a e. tt))
     effect-follows (jump p) = (r .own .0, refl, refl)
     effect-follows (jumpIf a p) = (r .own .0, refl, refl)
     effect-follows (store aim b s) =

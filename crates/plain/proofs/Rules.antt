@@ -1,16 +1,16 @@
 -- The two rules of demand 3, written out, and that they are alike: they start globals at the same
 -- places, and ALLOC and FREE keep the tie.
-use Prim.Native.Nat.{ℕ, zero, suc, _+_, _<_}
-use native.Mathlib.Nat.{not-suc-le-zero, le-of-suc-le-suc}
+use Prim.Native.Nat.{ℕ, _<_}
 use native.Mathlib.Omega.{arith}
 use mathlib.Core.Path.{_≡_, refl, sym, _∙_, ap, subst}
-use mathlib.Core.List.{List, [], _∷_}
+use mathlib.Core.List.{List}
 use mathlib.Core.Bool.{true}
-use lib.ListN.{length}
+use lib.ListN.{length, List·getD-map}
 use Rattle.files.specs.declared.Object.{Object}
 use Rattle.files.specs.Program.{Program}
 use Rattle.coloring.specs.Unsafe.{unsafeSets}
 use Rattle.coloring.specs.Colored.{tinted}
+use Rattle.coloring.proofs.Tinted.{tinted-color}
 use Rattle.layout.specs.Layout.{piecesOf, startOf, fits}
 use Rattle.plain.specs.Guards.{Guards}
 use Rattle.heap.specs.Heap.{Made, Freed, Alloc, Free, alloc, free, paintMade, paintFreed}
@@ -27,13 +27,6 @@ use Rattle.plain.proofs.Owners.{Each}
 use Rattle.plain.proofs.Painting.{Whole}
 use Rattle.plain.proofs.Globals.{pieces-same, globals-whole}
 use Rattle.plain.proofs.Holding.{Holds, holds-made, holds-freed}
-
--- the color of an object of version 2
-tinted-color : (color : ℕ → ℕ) (objects : List Object) (from k : ℕ) → k < length objects → colorOfObject (tinted color from objects) k ≡ color (from + k)
-unfolding tinted
-tinted-color color [] from k h = absurd (not-suc-le-zero h)
-tinted-color color (o ∷ os) from zero h = ap color (omega arith)
-tinted-color color (o ∷ os) from (suc k) h = tinted-color color os (from + 1) k (le-of-suc-le-suc h) ∙ ap color (omega arith)
 
 abbrev pub rule₁ : Program → Rule (List Live)
 rule₁ p = record { code = p .code; start = startOf (plainPieces p); allows = plainAllows p; making = liveMaking; freeing = liveFreeing }
@@ -66,7 +59,9 @@ module _ (p q : Program) (guards : Guards p q) where
 
   site-color : (g : ℕ) → g < length (p .objects) → colorOfObject (q .objects) g ≡ color g
   site-color g site =
-      ap (λ (os : List Object). colorOfObject os g) (guards .objects) ∙ tinted-color color (p .objects) 0 g site ∙ ap color (omega arith)
+      ap (λ (os : List Object). colorOfObject os g) (guards .objects)
+      ∙ sym (List·getD-map (λ (o : Object). o .color) (tinted color 0 (p .objects)) g (record { kind = 0; size = 0; color = 0 }))
+      ∙ tinted-color color 0 (p .objects) g site ∙ ap color (omega arith)
 
   module _ (good : Good p) (fitting : fits (plainPieces p) ≡ true) where
     whole : Each Whole (globals p)

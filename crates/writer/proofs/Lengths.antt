@@ -1,12 +1,11 @@
 -- Measuring a program: what is good has a length, part by part. Assumes nothing.
 use mathlib.Core.Path.{_≡_, refl, ap, _∙_}
-use mathlib.Core.List.{List, [], _∷_, _++_, map}
+use mathlib.Core.List.{List, [], _∷_, _++_}
 use mathlib.Core.Bool.{Bool, true, false}
-use Prim.Native.Nat.{ℕ, zero, suc, _+_, _*_, _-_, _<_, _≤_}
-use native.Mathlib.Nat.{sub-zero, mul-suc}
+use Prim.Native.Nat.{ℕ, suc, _+_, _*_, _≤_}
+use native.Mathlib.Nat.{mul-suc}
 use native.Mathlib.Omega.{arith}
-use lib.ListN.{length, take, drop, getD, length-append}
-use lib.Seq.{drop-cons}
+use lib.ListN.{length, length-append}
 use lib.Dec.{eqb, leb}
 use borrow.Author.Tests.{eq-eqb, ne-eqb}
 use Rattle.numbers.specs.Number.{spell, width}
@@ -18,9 +17,8 @@ use Rattle.opcodes.specs.declared.Parts.{Parts}
 use Rattle.opcodes.specs.Table.{partsOf, rowOf}
 use Rattle.opcodes.specs.Ranges.{Scope, present, within, isColor, lastOpcode}
 use Rattle.files.specs.Writing.{spellIf, spellAll, spellObject, spellInstr, spellParts, every, both, goodObject, goodOperand, goodParts}
-use Rattle.files.specs.Held.{tabulate}
 use Rattle.writer.specs.Inside.{measured}
-use Rattle.files.proofs.SpelledObjects.{both-are}
+use Rattle.files.proofs.Tests.{both-are, both-no, both-then, every-more, every-stops}
 
 -- ---- one answer
 
@@ -41,13 +39,6 @@ was-good false n p e = let w : _≡_ {A = ℕ} 0 1 = cc in absurd (omega arith)
 pub was-bad : (b : Bool) (n : ℕ) {r : Length} → r ≡ measured b n → r ≡ Length.Bad → b ≡ false
 was-bad true n p e = let w : _≡_ {A = ℕ} 0 1 = cc in absurd (omega arith)
 was-bad false n p e = refl
-
-pub both-no : {a : Bool} (b : Bool) → a ≡ false → both a b ≡ false
-both-no b p = simp (p, both)
-
-pub both-then : (a : Bool) {b : Bool} → b ≡ false → both a b ≡ false
-both-then true q = q
-both-then false q = refl
 
 -- ---- an object of version 2, by its kind
 
@@ -161,52 +152,20 @@ module _ {A : Type 0} (good : A → Bool) (spell : A → List ℕ) where
   add-none all = record { tests = refl; sum = omega arith }
 
   module _ {all : List A} {x : A} {rest : List A} {total : ℕ} (a : Adding good spell all (x ∷ rest) total) where
-    every-more : good x ≡ true → every good (x ∷ rest) ≡ every good rest
-    unfolding every
-    every-more p = rw (p, every)
-
-    every-stops : good x ≡ false → every good (x ∷ rest) ≡ false
-    unfolding every
-    every-stops p = rw (p, every)
-
     spell-more : length (spellAll spell (x ∷ rest)) ≡ length (spell x) + length (spellAll spell rest)
     unfolding spellAll
     spell-more = length-append (spell x) (spellAll spell rest)
 
     pub add-more : {k : ℕ} → good x ≡ true → k ≡ length (spell x) → Adding good spell all rest (total + k)
     add-more {k} p e =
-        record { tests = a .tests ∙ every-more p; sum = let s = a .sum in let m = spell-more in omega (arith, e) }
+        record { tests = a .tests ∙ every-more good x rest p; sum = let s = a .sum in let m = spell-more in omega (arith, e) }
 
     pub add-stops : good x ≡ false → every good all ≡ false
-    add-stops p = a .tests ∙ every-stops p
+    add-stops p = a .tests ∙ every-stops good x rest p
 
   pub add-all : {all : List A} {total : ℕ} → Adding good spell all [] total → Fits (every good all) (length (spellAll spell all)) total
   unfolding every spellAll
   add-all a = record { good = a .tests; long = let s = a .sum in omega arith }
-
--- ---- what a loop goes through
-
-module _ {A : Type 0} (f : ℕ → A) where
-  pub tabulate-more : (i count : ℕ) → i < count → tabulate f i (count - i) ≡ f i ∷ tabulate f (i + 1) (count - (i + 1))
-  unfolding tabulate
-  tabulate-more i count h = let one : count - i ≡ suc (count - (i + 1)) = omega arith in rw one
-
-  pub tabulate-none : (i count : ℕ) → count ≤ i → tabulate f i (count - i) ≡ []
-  unfolding tabulate
-  tabulate-none i count h = let none : count - i ≡ 0 = omega arith in rw none
-
-  pub tabulate-all : (count : ℕ) → tabulate f 0 (count - 0) ≡ tabulate f 0 count
-  tabulate-all count = ap (tabulate f 0) (sub-zero count)
-
-pub map-take : {A B : Type 0} (g : A → B) (l : List A) (d : A) (n i : ℕ) → i + n ≤ length l
-    → map g (take n (drop i l)) ≡ tabulate (λ k. g (getD l k d)) i n
-unfolding tabulate
-map-take g l d zero i h = refl
-map-take g l d (suc n) i h =
-    let next : suc i ≡ i + 1 = omega arith in
-    ap (λ (m : List _). map g (take (suc n) m)) (drop-cons l i d (omega arith))
-    ∙ ap (λ (t : List _). g (getD l i d) ∷ t)
-    (ap (λ (k : ℕ). map g (take n (drop k l))) next ∙ map-take g l d n (i + 1) (omega arith))
 
 -- many things of a few bytes each
 pub many-small : {A : Type 0} (spell : A → List ℕ) (most : ℕ) → ((x : A) → length (spell x) ≤ most) → (xs : List A)

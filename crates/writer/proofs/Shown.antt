@@ -15,14 +15,9 @@ use Rattle.files.specs.Program.{Program, kindsOf}
 use Rattle.files.specs.Writing.{spellAll, spellObject, spellInstr, spellFile, every, both, goodObject, goodInstr, scopeOf, goodProgram}
 use Rattle.files.specs.Held.{tabulate}
 use Rattle.writer.specs.Inside.{objectIn, shownIn, sayable}
-use Rattle.writer.proofs.Lengths.{both-no, both-then}
 use Rattle.opcodes.proofs.Bounds.{within-bounds}
-use Rattle.files.proofs.SpelledObjects.{both-are, both-each}
-
-pub length-tabulate : {A : Type 0} (f : ℕ → A) (i n : ℕ) → length (tabulate f i n) ≡ n
-unfolding tabulate
-length-tabulate f i zero = refl
-length-tabulate f i (suc n) = ap suc (length-tabulate f (i + 1) n)
+use Rattle.files.proofs.Tabulated.{length-tabulate}
+use Rattle.files.proofs.Tests.{both-are, both-each, both-no, both-then}
 
 kinds-from : (kinds sizes colors : List ℕ) (n i : ℕ) → i + n ≤ length kinds
     → kindsOf (tabulate (objectIn kinds sizes colors) i n) ≡ take n (drop i kinds)

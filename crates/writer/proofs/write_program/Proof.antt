@@ -11,7 +11,7 @@ use borrow.Author.Tests.{le-leb, lt-leb, leb-true}
 use Rattle.files.specs.declared.Written.{Written}
 use Rattle.files.specs.Held.{writable, fileOf, writtenIn, roomWith, shown}
 use Rattle.writer.specs.Inside.{sayable}
-use Rattle.files.proofs.SpelledObjects.{both-each as both-true}
+use Rattle.files.proofs.Tests.{both-each}
 use Rattle.writer.proofs.Lengths.{was-good, was-bad}
 use Rattle.writer.proofs.Putting.{front}
 use borrow.Author.Needs.{needs}
@@ -51,8 +51,8 @@ put-file-requires : tie.Need-put-file-requires
 put-file-requires c κs =
     let s = c .before .before .before .before .before .before .before .before .before .before .before in
     let f = was-good (sayable-of s) (length (fileOf (s .args .p))) (c .before .before .before .before .before .file-length .ensures) (c .before .before .before .measure .given .1) in
-    let a = both-true (leb (s .args .p .objects) 400) _ (f .good) in
-    let b = both-true (leb (s .args .p .lines) 2000) _ (a .1) in
+    let a = both-each (leb (s .args .p .objects) 400) _ (f .good) in
+    let b = both-each (leb (s .args .p .lines) 2000) _ (a .1) in
     (leb-true (s .args .p .objects) 400 (a .0), leb-true (s .args .p .lines) 2000 (b .0), omega (arith, f .long, c .before .if1 .left))
 
 same-length : tie.Need-same-length

@@ -11,7 +11,8 @@ use Rattle.files.specs.declared.Line.{Line}
 use Rattle.files.specs.Writing.{goodInstr, spellInstr}
 use Rattle.files.specs.Held.{tabulate, line}
 use Rattle.opcodes.specs.Ranges.{Scope, scopeOver}
-use Rattle.writer.proofs.Lengths.{Adding, measure-good, measure-bad, was-good, was-bad, instr-length, add-none, add-more, add-stops, add-all, tabulate-more, tabulate-none, tabulate-all, map-take}
+use Rattle.files.proofs.Tabulated.{tabulate-first, tabulate-none, tabulate-all, map-take}
+use Rattle.writer.proofs.Lengths.{Adding, measure-good, measure-bad, was-good, was-bad, instr-length, add-none, add-more, add-stops, add-all}
 use Prim.Native.Nat.{_≤_}
 use Rattle.writer.proofs.measuring.code_length.Statement.{statement}
 use Rattle.writer.proofs.measuring.code_length.Tie as tie
@@ -59,7 +60,7 @@ here : (scope : Scope) (code : List Line) (lines i total : ℕ) → i < lines
     → Adding (goodInstr scope) (spellInstr (scope .version)) (tabulate (instr-of code) 0 lines) (instr-of code i ∷ tabulate (instr-of code) (i + 1) (lines - (i + 1))) total
 here scope code lines i total h a =
     subst (λ (l : List Instr). Adding (goodInstr scope) (spellInstr (scope .version)) (tabulate (instr-of code) 0 lines) l total)
-    (tabulate-more (instr-of code) i lines h) a
+    (tabulate-first (instr-of code) i lines h) a
 
 -- an array is as long as its type says
 long-enough : (s : tie.Start Inv-loop μ-loop) → s .args .scope .lines ≤ length (s .args .t3)

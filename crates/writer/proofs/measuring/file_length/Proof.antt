@@ -12,9 +12,9 @@ use Rattle.opcodes.specs.Ranges.{Scope, scopeOver}
 use Rattle.files.specs.Program.{Program}
 use Rattle.files.specs.Writing.{spellAll, spellObject, spellInstr, spellFile, every, goodObject, goodInstr, scopeOf, goodProgram}
 use Rattle.opcodes.proofs.Bounds.{within-true as within-are}
-use Rattle.files.proofs.SpelledObjects.{both-are}
+use Rattle.files.proofs.Tests.{both-are, both-then}
 use Rattle.writer.specs.Inside.{shownIn, sayable}
-use Rattle.writer.proofs.Lengths.{Fits, measure-good, measure-bad, was-good, was-bad, both-then, object-length, instr-length, many-small}
+use Rattle.writer.proofs.Lengths.{Fits, measure-good, measure-bad, was-good, was-bad, object-length, instr-length, many-small}
 use Rattle.writer.proofs.Shown.{Counted, objects-count, lines-count, scope-is, bad-objects, bad-code, too-long, all-good, file-length, uncounted, counts-are}
 use borrow.Author.Needs.{needs}
 use Rattle.writer.proofs.measuring.file_length.Statement.{statement}

@@ -16,7 +16,7 @@ use Rattle.opcodes.specs.Table.{partsOf, rowOf}
 use Rattle.opcodes.specs.Ranges.{Scope, present, lastOpcode, scopeOver}
 use Rattle.files.specs.Writing.{spellIf, spellInstr, goodOperand}
 use Rattle.writer.specs.Inside.{measured}
-use Rattle.files.proofs.SpelledObjects.{both-are}
+use Rattle.files.proofs.Tests.{both-are}
 use Rattle.writer.proofs.Lengths.{Fits, measure-good, measure-bad, was-good, was-bad, bad-opcode, bad-first, bad-second, bad-third, field-length, parts-length}
 use borrow.Author.Needs.{needs}
 use Rattle.writer.proofs.measuring.instr_length.Statement.{statement}

@@ -9,7 +9,8 @@ use Rattle.files.specs.declared.Object.{Object}
 use Rattle.files.specs.Writing.{goodObject, spellObject}
 use Rattle.files.specs.Held.{tabulate}
 use Rattle.writer.specs.Inside.{objectIn}
-use Rattle.writer.proofs.Lengths.{Adding, measure-good, measure-bad, was-good, was-bad, object-length, add-none, add-more, add-stops, add-all, tabulate-more, tabulate-none, tabulate-all}
+use Rattle.files.proofs.Tabulated.{tabulate-first, tabulate-none, tabulate-all}
+use Rattle.writer.proofs.Lengths.{Adding, measure-good, measure-bad, was-good, was-bad, object-length, add-none, add-more, add-stops, add-all}
 use Rattle.writer.proofs.measuring.objects_length.Statement.{statement}
 use Rattle.writer.proofs.measuring.objects_length.Tie as tie
 
@@ -58,7 +59,7 @@ here : (count : ℕ) (kinds sizes colors : List ℕ) (i total : ℕ) → i < cou
     (objectIn kinds sizes colors i ∷ tabulate (objectIn kinds sizes colors) (i + 1) (count - (i + 1))) total
 here count kinds sizes colors i total h a =
     subst (λ (l : List Object). Adding (goodObject 2) (spellObject 2) (tabulate (objectIn kinds sizes colors) 0 count) l total)
-    (tabulate-more (objectIn kinds sizes colors) i count h) a
+    (tabulate-first (objectIn kinds sizes colors) i count h) a
 
 returns : tie.Need-returns Inv-loop μ-loop
 returns c =

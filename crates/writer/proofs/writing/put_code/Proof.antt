@@ -11,7 +11,7 @@ use Rattle.opcodes.specs.declared.Instr.{Instr}
 use Rattle.files.specs.declared.Line.{Line}
 use Rattle.files.specs.Writing.{spellInstr, spellAll}
 use Rattle.files.specs.Held.{tabulate, line}
-use Rattle.writer.proofs.Lengths.{tabulate-more, tabulate-none, tabulate-all, map-take}
+use Rattle.files.proofs.Tabulated.{tabulate-first, tabulate-none, tabulate-all, map-take}
 use Rattle.writer.proofs.Putting.{Going, as-long, go-none, go-fits, go-more, go-all}
 use Rattle.writer.proofs.writing.put_code.Statement.{statement}
 use Rattle.writer.proofs.writing.put_code.Tie as tie
@@ -49,7 +49,7 @@ array-copy-out-line c = omega arith
 put-instr-requires : tie.Need-put-instr-requires Inv-loop μ-loop
 put-instr-requires c κs =
     let g = subst (λ (l : List Instr). Going (spellInstr 2) (tabulate (instr-of (c .before .before .before .before .before .args .t4)) 0 (c .before .before .before .before .before .args .lines)) l (now (c .before .before .before .before .before .args .room)) (c .before .before .before .before .before .args .at) (c .before .before .before .loop .room) (c .before .before .before .loop .place))
-    (tabulate-more (instr-of (c .before .before .before .before .before .args .t4)) (c .before .before .before .loop .i) (c .before .before .before .before .before .args .lines) (c .before .before .loop-test .taken)) (c .before .before .before .loop .inv .1) in
+    (tabulate-first (instr-of (c .before .before .before .before .before .args .t4)) (c .before .before .before .loop .i) (c .before .before .before .before .before .args .lines) (c .before .before .loop-test .taken)) (c .before .before .before .loop .inv .1) in
     go-fits (spellInstr 2) g (subst (λ (l : List Instr). c .before .before .before .before .before .args .at + length (spellAll (spellInstr 2) l) ≤ length (now (c .before .before .before .before .before .args .room))) (all-are (c .before .before .before .before .before)) (c .before .before .before .before .before .pre .1))
 
 add-i : tie.Need-add-i Inv-loop μ-loop
@@ -61,7 +61,7 @@ loop-less c = omega arith
 loop-again : tie.Need-loop-again Inv-loop μ-loop
 loop-again c =
     let g = subst (λ (l : List Instr). Going (spellInstr 2) (tabulate (instr-of (c .before .before .before .before .before .before .before .before .args .t4)) 0 (c .before .before .before .before .before .before .before .before .args .lines)) l (now (c .before .before .before .before .before .before .before .before .args .room)) (c .before .before .before .before .before .before .before .before .args .at) (c .before .before .before .before .before .before .loop .room) (c .before .before .before .before .before .before .loop .place))
-    (tabulate-more (instr-of (c .before .before .before .before .before .before .before .before .args .t4)) (c .before .before .before .before .before .before .loop .i) (c .before .before .before .before .before .before .before .before .args .lines) (c .before .before .before .before .before .loop-test .taken)) (c .before .before .before .before .before .before .loop .inv .1) in
+    (tabulate-first (instr-of (c .before .before .before .before .before .before .before .before .args .t4)) (c .before .before .before .before .before .before .loop .i) (c .before .before .before .before .before .before .before .before .args .lines) (c .before .before .before .before .before .loop-test .taken)) (c .before .before .before .before .before .before .loop .inv .1) in
     (omega arith, go-more (spellInstr 2) g (record { room = c .before .before .put-instr .ensures .1; ends = c .before .before .put-instr .ensures .0 }))
 
 same-length : tie.Need-same-length Inv-loop μ-loop

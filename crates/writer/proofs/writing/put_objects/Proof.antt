@@ -8,7 +8,7 @@ use Rattle.files.specs.declared.Object.{Object}
 use Rattle.files.specs.Writing.{spellObject}
 use Rattle.files.specs.Held.{tabulate}
 use Rattle.writer.specs.Inside.{objectIn}
-use Rattle.writer.proofs.Lengths.{tabulate-more, tabulate-none, tabulate-all}
+use Rattle.files.proofs.Tabulated.{tabulate-first, tabulate-none, tabulate-all}
 use Rattle.writer.proofs.Putting.{Going, as-long, go-none, go-fits, go-more, go-all}
 use Rattle.writer.proofs.writing.put_objects.Statement.{statement}
 use Rattle.writer.proofs.writing.put_objects.Tie as tie
@@ -42,7 +42,7 @@ array-read-put-object-3 c = omega arith
 put-object-requires : tie.Need-put-object-requires Inv-loop μ-loop
 put-object-requires c κs =
     let g = subst (λ (l : List Object). Going (spellObject 2) (tabulate (objectIn (c .before .before .before .before .args .t4) (c .before .before .before .before .args .t5) (c .before .before .before .before .args .t6)) 0 (c .before .before .before .before .args .count)) l (now (c .before .before .before .before .args .room)) (c .before .before .before .before .args .at) (c .before .before .loop .room) (c .before .before .loop .place))
-    (tabulate-more (objectIn (c .before .before .before .before .args .t4) (c .before .before .before .before .args .t5) (c .before .before .before .before .args .t6)) (c .before .before .loop .i) (c .before .before .before .before .args .count) (c .before .loop-test .taken)) (c .before .before .loop .inv .1) in
+    (tabulate-first (objectIn (c .before .before .before .before .args .t4) (c .before .before .before .before .args .t5) (c .before .before .before .before .args .t6)) (c .before .before .loop .i) (c .before .before .before .before .args .count) (c .before .loop-test .taken)) (c .before .before .loop .inv .1) in
     go-fits (spellObject 2) g (c .before .before .before .before .pre .1)
 
 add-i : tie.Need-add-i Inv-loop μ-loop
@@ -54,7 +54,7 @@ loop-less c = omega arith
 loop-again : tie.Need-loop-again Inv-loop μ-loop
 loop-again c =
     let g = subst (λ (l : List Object). Going (spellObject 2) (tabulate (objectIn (c .before .before .before .before .before .before .before .args .t4) (c .before .before .before .before .before .before .before .args .t5) (c .before .before .before .before .before .before .before .args .t6)) 0 (c .before .before .before .before .before .before .before .args .count)) l (now (c .before .before .before .before .before .before .before .args .room)) (c .before .before .before .before .before .before .before .args .at) (c .before .before .before .before .before .loop .room) (c .before .before .before .before .before .loop .place))
-    (tabulate-more (objectIn (c .before .before .before .before .before .before .before .args .t4) (c .before .before .before .before .before .before .before .args .t5) (c .before .before .before .before .before .before .before .args .t6)) (c .before .before .before .before .before .loop .i) (c .before .before .before .before .before .before .before .args .count) (c .before .before .before .before .loop-test .taken)) (c .before .before .before .before .before .loop .inv .1) in
+    (tabulate-first (objectIn (c .before .before .before .before .before .before .before .args .t4) (c .before .before .before .before .before .before .before .args .t5) (c .before .before .before .before .before .before .before .args .t6)) (c .before .before .before .before .before .loop .i) (c .before .before .before .before .before .before .before .args .count) (c .before .before .before .before .loop-test .taken)) (c .before .before .before .before .before .loop .inv .1) in
     (omega arith, go-more (spellObject 2) g (record { room = c .before .before .put-object .ensures .1; ends = c .before .before .put-object .ensures .0 }))
 
 same-length : tie.Need-same-length Inv-loop μ-loop
