@@ -78,7 +78,7 @@ makers =
 abbrev pub make : (op x y z : ℕ) → Instr
 make op = getD makers op (λ x y z. End)
 
--- what the field of an operand of each kind holds of a number: all of it, if it lies in the operand's range
+-- what the field of an operand of each kind holds of a number: all of one that a file can say there
 abbrev pub fit : Operand → ℕ → ℕ
 fit Operand.None n = 0
 fit Operand.Temporary n = n % 256

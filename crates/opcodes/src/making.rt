@@ -57,6 +57,7 @@ pub fn instr_of(op: u32, x: u32, y: u32, z: u32) -> Instr
     }
 }
 
+// An opcode with its three operands.
 fn four(op: u32, x: u32, y: u32, z: u32) -> Parts
     ensures { λ r. ⌜ r ≡ record { op = op; x = x; y = y; z = z } ⌝ }
 {
