@@ -18,7 +18,7 @@ use borrow.Author.Tests.{ltb-true, ltb-false, le-leb, lt-leb}
 use Rattle.files.specs.declared.Outcome.{Outcome}
 use Rattle.files.specs.declared.Loaded.{Loaded}
 use Rattle.files.specs.Program.{Program}
-use Rattle.files.specs.Reading.{Reading, whole, refusal}
+use Rattle.files.specs.Reading.{Reading, whole, refusal, onWhole}
 use Rattle.files.specs.Held.{joined, endsFrom, filled, heldAs, held}
 use Rattle.files.proofs.RoundTrip.{Good}
 use Rattle.coloring.specs.declared.Nature.the-variants.{Listed}
@@ -188,7 +188,7 @@ module _ (p : Program) (good : Good 1 p) where
           ∙ sym (ap pick (lt-leb (classCount p) 254 h))
         where
           pick : Bool → Loaded
-          pick few = held (elim few [ true ↦ whole (withColors (colorIn p) p) | false ↦ Reading.refused (refusal 8 0) ])
+          pick few = held (onWhole (λ p. whole (withColors (colorIn p) p)) (elim few [ true ↦ whole p | false ↦ Reading.refused (refusal 8 0) ]))
       go false e =
           let h : classCount p ≤ 254 = ltb-false 254 (classCount p) e in
           painting-few routine labels (filled 400 0 tints) (classCount p) (sym labels-are) (sym counted) h (sym colors-are)
@@ -196,4 +196,4 @@ module _ (p : Program) (good : Good 1 p) where
           ∙ sym (ap pick (le-leb (classCount p) 254 h))
         where
           pick : Bool → Loaded
-          pick few = held (elim few [ true ↦ whole (withColors (colorIn p) p) | false ↦ Reading.refused (refusal 8 0) ])
+          pick few = held (onWhole (λ p. whole (withColors (colorIn p) p)) (elim few [ true ↦ whole p | false ↦ Reading.refused (refusal 8 0) ]))

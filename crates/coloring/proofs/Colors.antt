@@ -14,7 +14,7 @@ use mathlib.Core.Bool.{Bool, true, false}
 use lib.Dec.{eqb, ltb}
 use borrow.Author.Tests.{eqb-true, eq-eqb, ltb-true, ltb-false}
 use Rattle.coloring.specs.Class.{unsafeObject, Chain, last, link, sameClass}
-use Rattle.coloring.specs.Color.{Legal, lowestFrom, lowest, first, classesBelow, colorOf}
+use Rattle.coloring.specs.Color.{Legal, Keeps, lowestFrom, lowest, first, classesBelow, colorOf}
 use Rattle.files.proofs.Tests.{no-test}
 use Rattle.coloring.proofs.Chains.{class-is-chain, set-class, class-trans, class-sym, class-self, class-unsafe}
 
@@ -176,7 +176,11 @@ module _ (sets : List (List ℕ)) where
       go false u true v = absurd (omega (arith, color-low y v, color-safe x u, e))
       go false u false v = g .safe x u ∙ sym (g .safe y v)
 
-  -- equal colors exactly when a chain joins them
-  pub color-is-chain : (x y : ℕ) → unsafeObject sets x ≡ true → (colorOf sets x ≡ colorOf sets y → Chain sets x y) × (Chain sets x y → colorOf sets x ≡ colorOf sets y)
-  color-is-chain x y u =
-      (λ e. class-is-chain sets x y .0 (color-apart x y u e), λ c. color-together x y (class-is-chain sets x y .1 c))
+  -- 0 on the safe objects, and equal colors exactly where a chain joins two unsafe ones
+  pub colors-keep : Keeps sets (colorOf sets)
+  colors-keep =
+      record {
+        safe = color-safe;
+        together = λ x y c. color-together x y (class-is-chain sets x y .1 c);
+        apart = λ x y u e. class-is-chain sets x y .0 (color-apart x y u e);
+      }

@@ -3,10 +3,10 @@
 -- On the definitions, for every list of sets:
 -- - two objects are of one computed class exactly when a chain joins them (Chains, class-is-chain);
 -- - 01's colors are legal, no legal coloring tells more objects apart, and equal colors above 0 mean a
---   chain (Colors, coloring-is-legal, none-finer, color-is-chain);
+--   chain (Colors, coloring-is-legal, none-finer, colors-keep);
 -- - they are numbered in the order of the lowest objects, and no other numbers are so (Order,
 --   colors-in-order, one-coloring);
--- - a routine's unsafe sets do not depend on its objects' colors (Tinted, uncolored-sets).
+-- - an instruction is nothing to the classes, or an unsafe store with its set (Stores, stores).
 --
 -- In code: what an instruction is follows from its opcode number (Natures), and read_colored answers
 -- 01's coloring of what was read, or its refusal, which is 8 exactly for more than 254 classes. The
@@ -19,6 +19,7 @@ pub mod Chains
 pub mod Colors
 pub mod Order
 pub mod Tinted
+pub mod Stores
 pub mod Natures
 pub mod Turns
 pub mod Joining

@@ -4,21 +4,20 @@ use Prim.Native.Nat.{ℕ, zero, suc, _+_, _<_, _≤_}
 use native.Mathlib.Omega.{arith}
 use mathlib.Core.Path.{_≡_, refl, sym, _∙_, ap}
 use mathlib.Core.Logic.{_⊎_, inl, inr, ⊎-elim}
-use mathlib.Core.List.{List, [], _∷_, _++_}
+use mathlib.Core.List.{List, [], _∷_, _++_, map}
 use mathlib.Core.Bool.{Bool, true, false}
 use lib.ListN.{length, getD, set, length-set}
 use lib.Seq.{getD-set-same, getD-set-other}
-use lib.Dec.{leb}
 use borrow.Author.Tests.{lt-ltb, le-ltb}
 use Rattle.opcodes.specs.declared.Instr.{Instr}
 use Rattle.files.specs.declared.Line.{Line}
 use Rattle.files.specs.Program.{Program}
 use Rattle.files.specs.Held.{line}
-use Rattle.opcodes.specs.View.{inGlobal, atTemp, View, act, jump, jumpIf, store, check, view, bytes, extent}
+use Rattle.opcodes.specs.View.{Aim, inGlobal, atTemp, View, act, jump, jumpIf, store, check, view, bytes}
 use Rattle.coloring.specs.declared.Nature.{Nature}
 use Rattle.coloring.specs.declared.Nature.the-variants.{Safe, Own, Listed, Jump, Check, Other}
-use Rattle.coloring.specs.Nature.{natureOf, putNature, sizesIn}
-use Rattle.coloring.specs.Unsafe.{sizeOf, unsafeSet, setsIn}
+use Rattle.coloring.specs.Nature.{natureOf, sizesIn}
+use Rattle.coloring.specs.Unsafe.{sizeOf, safePut, Unsafe, unsafeSet, setsIn}
 use Rattle.coloring.specs.Class.{holds, Neighbours, Chain, last}
 use Rattle.coloring.specs.Labels.{touched, ownMarked, useMarked, ownsMarked, usesMarked}
 use Rattle.files.proofs.Tests.{no-test}
@@ -64,17 +63,18 @@ module _ (p : Program) where
   abbrev pub sizes : ℕ → ℕ
   sizes g = sizeOf (p .objects) g
 
-  by-put : (g k n : ℕ) (b : Bool) → leb (k + n) (extent (sizes g)) ≡ b
-      → elim b [ true ↦ [] | false ↦ (g ∷ []) ∷ [] ] ≡ setsBy p (putNature (sizes g) g k n)
-  by-put g k n true e = rw (e, putNature)
-  by-put g k n false e = rw (e, putNature)
+  by-put : (aim : Aim) (g : ℕ) (safe : Bool)
+      → map (λ (u : Unsafe). u .set) (elim safe as (λ _. List Unsafe) [ true ↦ [] | false ↦ record { aim = aim; set = g ∷ [] } ∷ [] ])
+      ≡ setsBy p (elim safe as (λ _. Nature) [ true ↦ Nature.Safe | false ↦ Nature.Own g ])
+  by-put aim g true = refl
+  by-put aim g false = refl
 
   -- an instruction's unsafe set is that of its nature
   unsafe-by : (v : View) → unsafeSet p v ≡ setsBy p (natureOf sizes v)
   unsafe-by (act x) = refl
   unsafe-by (jump t) = refl
   unsafe-by (jumpIf a t) = refl
-  unsafe-by (store (inGlobal g k w) b s) = by-put g k (bytes w) (leb (k + bytes w) (extent (sizes g))) refl
+  unsafe-by (store (inGlobal g k w) b s) = by-put (inGlobal g k w) g (safePut (sizes g) k (bytes w))
   unsafe-by (store (atTemp a w) b s) = refl
   unsafe-by (check aim c) = refl
 

@@ -15,7 +15,7 @@ use borrow.Author.Tests.{eqb-true, eqb-false, ltb-true, ltb-false}
 use Rattle.coloring.specs.Class.{unsafeObject, Chain}
 use Rattle.coloring.specs.Color.{lowest, first, classesBelow, colorOf, IsLowest, InOrder, Numbering}
 use Rattle.coloring.proofs.Chains.{class-is-chain}
-use Rattle.coloring.proofs.Colors.{lowest-upto, lowest-in, lowest-least, first-one, first-of, count-rises, color-safe, color-unsafe, color-low, color-is-chain}
+use Rattle.coloring.proofs.Colors.{lowest-upto, lowest-in, lowest-least, first-one, first-of, count-rises, color-safe, color-unsafe, color-low, colors-keep}
 
 module _ (sets : List (List ℕ)) where
   -- ---- the lowest object, as a fact and as a number
@@ -99,9 +99,7 @@ module _ (sets : List (List ℕ)) where
   pub colors-are-numbering : Numbering sets (colorOf sets)
   colors-are-numbering =
       record {
-        safe = color-safe sets;
-        together = λ x y c. Rattle.coloring.proofs.Colors.color-together sets x y (class-is-chain sets x y .1 c);
-        apart = λ x y u e. color-is-chain sets x y u .0 e;
+        keeps = colors-keep sets;
         ordered = colors-in-order;
       }
 
@@ -131,7 +129,7 @@ module _ (sets : List (List ℕ)) (f g : ℕ → ℕ) (hf : Numbering sets f) (h
   same-at x below = go (unsafeObject sets x) refl (eqb (lowest sets x) x) refl
     where
       go : (b : Bool) → unsafeObject sets x ≡ b → (d : Bool) → eqb (lowest sets x) x ≡ d → f x ≡ g x
-      go false u d e = hf .safe x u ∙ sym (hg .safe x u)
+      go false u d e = hf .keeps .safe x u ∙ sym (hg .keeps .safe x u)
       go true u true e =
           let h : IsLowest sets x = is-lowest sets x u (eqb-true (lowest sets x) x e) in
           omega (arith, at-most sets f g hf hg x h below, at-most sets g f hg hf x h (λ y l. sym (below y l)))
@@ -139,7 +137,7 @@ module _ (sets : List (List ℕ)) (f g : ℕ → ℕ) (hf : Numbering sets f) (h
           let ne : lowest sets x ≡ x → ⊥ = eqb-false (lowest sets x) x e in
           let l : lowest sets x < x = omega (arith, lowest-upto sets x, ne) in
           let c : Chain sets (lowest sets x) x = class-is-chain sets (lowest sets x) x .0 (lowest-in sets x u) in
-          sym (hf .together (lowest sets x) x c) ∙ below (lowest sets x) l ∙ hg .together (lowest sets x) x c
+          sym (hf .keeps .together (lowest sets x) x c) ∙ below (lowest sets x) l ∙ hg .keeps .together (lowest sets x) x c
 
   same-below : (n x : ℕ) → x < n → f x ≡ g x
   same-below zero x l = absurd (omega arith)

@@ -13,6 +13,10 @@ pub record Legal (sets : List (List ℕ)) (number : ℕ → ℕ) : Type 0 where
   pub high : (x : ℕ) → unsafeObject sets x ≡ true → 2 ≤ number x
   pub shared : (at x y : ℕ) → at < length sets → holds (getD sets at []) x ≡ true → holds (getD sets at []) y ≡ true → number x ≡ number y
 
+-- "an instruction's class is that of its set": the number of the set's lowest object
+abbrev pub colorOfSet : (number : ℕ → ℕ) → (set : List ℕ) → ℕ
+colorOfSet number set = number (getD set 0 0)
+
 -- the lowest object of x's class, looked for from `from` on; x itself where there is none before it
 unfoldable pub lowestFrom : (left : ℕ) → (sets : List (List ℕ)) (x from : ℕ) → ℕ
 lowestFrom zero sets x from = from
@@ -53,8 +57,12 @@ pub record InOrder (sets : List (List ℕ)) (number : ℕ → ℕ) : Type 0 wher
   pub gapless : (x n : ℕ) → IsLowest sets x → 2 ≤ n → n ≤ number x → (y : ℕ) × (y ≤ x) × (number y ≡ n)
 
 -- "Safe objects have color 0", and two unsafe objects one number exactly when a chain joins them
-pub record Numbering (sets : List (List ℕ)) (number : ℕ → ℕ) : Type 0 where
+pub record Keeps (sets : List (List ℕ)) (number : ℕ → ℕ) : Type 0 where
   pub safe : (x : ℕ) → unsafeObject sets x ≡ false → number x ≡ 0
   pub together : (x y : ℕ) → Chain sets x y → number x ≡ number y
   pub apart : (x y : ℕ) → unsafeObject sets x ≡ true → number x ≡ number y → Chain sets x y
+
+-- 01's own numbers
+pub record Numbering (sets : List (List ℕ)) (number : ℕ → ℕ) : Type 0 where
+  pub keeps : Keeps sets number
   pub ordered : InOrder sets number

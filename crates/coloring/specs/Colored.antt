@@ -1,12 +1,12 @@
 -- What coloring a routine answers: the routine with the color of each object, or refusal 8.
 use Prim.Native.Nat.{ℕ, _+_}
 use mathlib.Core.List.{List, [], _∷_}
-use mathlib.Core.Bool.{true, false}
+use mathlib.Core.Bool.{Bool, true, false}
 use lib.ListN.{length}
 use lib.Dec.{leb}
 use Rattle.files.specs.declared.Object.{Object}
 use Rattle.files.specs.Program.{Program}
-use Rattle.files.specs.Reading.{Reading, whole, refusal}
+use Rattle.files.specs.Reading.{Reading, whole, refusal, onWhole}
 use Rattle.coloring.specs.Unsafe.{unsafeSets}
 use Rattle.coloring.specs.Color.{classesBelow, colorOf}
 
@@ -26,6 +26,11 @@ abbrev pub classCount : Program → ℕ
 classCount p = classesBelow (unsafeSets p) (length (p .objects))
 
 -- "8 | more than 254 classes | 0"
+abbrev pub fewClasses : Program → Bool
+fewClasses p = leb (classCount p) 254
+
+abbrev pub classed : Program → Reading
+classed p = elim (fewClasses p) [ true ↦ whole p | false ↦ Reading.refused (refusal 8 0) ]
+
 unfoldable pub colored : Reading → Reading
-colored (whole p) = elim (leb (classCount p) 254) [ true ↦ whole (withColors (colorIn p) p) | false ↦ Reading.refused (refusal 8 0) ]
-colored (Reading.refused q) = Reading.refused q
+colored r = onWhole (λ p. whole (withColors (colorIn p) p)) (onWhole classed r)

@@ -1,16 +1,16 @@
 -- 01, "Safe stores, classes, colors": what an instruction is to the coloring.
-use Prim.Native.Nat.{ℕ, _+_}
+use Prim.Native.Nat.{ℕ}
 use mathlib.Core.Bool.{true, false}
 use mathlib.Core.List.{List}
 use lib.ListN.{getD}
-use lib.Dec.{leb, ltb}
-use Rattle.opcodes.specs.View.{Aim, inGlobal, atTemp, View, act, jump, jumpIf, store, check, bytes, extent}
+use lib.Dec.{ltb}
+use Rattle.opcodes.specs.View.{Aim, inGlobal, atTemp, View, act, jump, jumpIf, store, check, bytes}
 use Rattle.coloring.specs.declared.Nature.{Nature}
+use Rattle.coloring.specs.Unsafe.{safePut}
 
--- "A PUT is safe when its last byte lies inside the global's size rounded up to eight. Every other PUT
--- is unsafe with the set {g}": of n bytes at byte k of global g
+-- "Every other PUT is unsafe with the set {g}": of n bytes at byte k of global g
 abbrev pub putNature : (size g k n : ℕ) → Nature
-putNature size g k n = elim (leb (k + n) (extent size)) [ true ↦ Nature.Safe | false ↦ Nature.Own g ]
+putNature size g k n = elim (safePut size k n) [ true ↦ Nature.Safe | false ↦ Nature.Own g ]
 
 -- ", and every WRITE is unsafe with its set."
 abbrev pub storeNature : (size : ℕ → ℕ) → Aim → (set : ℕ) → Nature

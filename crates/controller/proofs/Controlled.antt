@@ -5,84 +5,54 @@
 -- A file is written: it reads back as version 2 of the routine, whose globals fit again, so the machine
 -- runs it; that run agrees with the routine's under the plain rule, and the table that it leaves is what
 -- TableAfter says.
-use Prim.Native.Nat.{ℕ, _≤_, _<_}
-use mathlib.Core.Path.{_≡_, sym, ap, _∙_, subst}
-use mathlib.Core.List.{List, _++_}
-use mathlib.Core.Bool.{true, false}
+use Prim.Native.Nat.{ℕ, _≤_}
 use native.Mathlib.Omega.{arith}
+use mathlib.Core.Path.{_≡_, refl, sym, ap, _∙_, subst}
+use mathlib.Core.List.{List, [], _∷_, _++_}
+use mathlib.Core.Bool.{Bool, true, false}
 use lib.ListN.{length, take, drop, length-append}
 use lib.Seq.{take-at}
-use borrow.Author.Tests.{le-leb, lt-leb, eq-eqb, ne-eqb}
+use borrow.Author.Tests.{eq-eqb, ne-eqb}
 use Rattle.numbers.specs.declared.Refusal.{Refusal}
 use Rattle.files.specs.Program.{Program}
 use Rattle.files.specs.Reading.{Reading, whole, refusal, readFile}
-use Rattle.files.proofs.RoundTrip.{one-spelling, good-of}
-use Rattle.coloring.specs.Unsafe.{unsafeSets}
-use Rattle.coloring.specs.Colored.{colorIn, classCount}
-use Rattle.layout.specs.Layout.{fits, piecesOf}
+use Rattle.files.proofs.RoundTrip.{one-spelling}
+use Rattle.coloring.specs.Class.{holds}
+use Rattle.coloring.specs.Colored.{colorIn}
+use Rattle.routines.specs.Accepted.{accepted, Accepted}
+use Rattle.routines.proofs.Stages.{crowds, overflows, admits}
 use Rattle.instrumenter.specs.Instrumented.{instrumented}
 use Rattle.instrumenter.specs.declared.Instrumented.{Instrumented}
-use Rattle.instrumenter.specs.Answer.{instrument}
+use Rattle.instrumenter.specs.Answer.{newFile, instrument}
 use Rattle.instrumenter.specs.Answer as instrumenting
-use Rattle.instrumenter.proofs.Answers.{fitting, newFile, Because, unread, crowded, overfull, cramped, written, answered-because}
-use Rattle.instrumenter.proofs.Instrumenting.{instrumented-good}
-use Rattle.instrumenter.proofs.ReadsBack.{Wrote, wrote}
+use Rattle.instrumenter.proofs.Answers.{Because, answered-because}
+use Rattle.instrumenter.proofs.ReadsBack.{new-file-reads, fits-again, wrote}
 use Rattle.machine.specs.State.{Given}
 use Rattle.machine.specs.Runs.{runs}
 use Rattle.machine.specs.Colors.{tableRule, firstTable}
 use Rattle.machine.specs.Running.{Lent, Answer, refuse, runProgram, runReading, exactLengths, runFile}
-use Rattle.plain.specs.Plain.{plainPieces, plainRun}
-use Rattle.plain.specs.Guards.{Guards}
-use Rattle.plain.specs.Demands.{Accepted, Agree}
-use Rattle.plain.proofs.Globals.{pieces-same}
-use Rattle.plain.proofs.Itself.{exact-colors, guards-itself}
+use Rattle.plain.specs.Plain.{plainRun}
+use Rattle.plain.specs.Demands.{NotAccepted, Refuses, Answered, Agree}
+use Rattle.plain.proofs.Itself.{guards-itself}
 use Rattle.plain.proofs.Same.{same-run}
-use Rattle.controller.specs.Control.{admitted, givenFor, plainAnswer, answerTo, control}
+use Rattle.plain.proofs.Answering.{one-to-seven, read-listed, new-file-short, because-refuses, run-listed}
+use Rattle.controller.specs.Control.{givenFor, plainAnswer, answerTo, control}
 use Rattle.controller.specs.TableAfter.{tableAfter}
-
--- a file says one routine
-one-routine : {r : Reading} (p q : Program) → r ≡ whole p → r ≡ whole q → p ≡ q
-one-routine p q a b = cc
-
--- what the instrumenter's answer makes of the controller's
-abbrev pub Controls : (file input : List ℕ) (limit : ℕ) → Lent → instrumenting.Answer → Type 0
-Controls bytes input limit lent (instrumenting.Answer.file out) = control bytes input limit lent ≡ runFile out input limit lent
-Controls bytes input limit lent (instrumenting.Answer.refused q) = control bytes input limit lent ≡ refuse lent q
+use Rattle.controller.specs.Demands.{ControlRefuses, controlNumbers, ControlIsAnswered, Controls, ControlsAsInstrumented}
 
 module _ (bytes input : List ℕ) (limit : ℕ) (lent : Lent) (exact : exactLengths lent ≡ true) where
-  -- ---- the controller's side, stage by stage
-
-  answered : (r : Reading) → readFile 1 bytes ≡ r → control bytes input limit lent ≡ answerTo input limit lent (admitted r)
+  -- the controller's side, by what becomes of the reading
+  answered : {x y : Reading} → readFile 1 bytes ≡ x → accepted x ≡ y → control bytes input limit lent ≡ answerTo input limit lent y
   unfolding control
-  answered r e = rw (exact, control) (ap (λ (x : Reading). answerTo input limit lent (admitted x)) e)
+  answered r a = rw (exact, control) (ap (λ (x : Reading). answerTo input limit lent (accepted x)) r ∙ ap (answerTo input limit lent) a)
 
-  crowds : (p : Program) → 254 < classCount p → admitted (whole p) ≡ Reading.refused (refusal 8 0)
-  crowds p h = simp (lt-leb (classCount p) 254 h, admitted)
-
-  overflows : (p : Program) → classCount p ≤ 254 → fits (plainPieces p) ≡ false → admitted (whole p) ≡ Reading.refused (refusal 9 0)
-  overflows p h f = simp (le-leb (classCount p) 254 h, f, admitted)
-
-  admits : (p : Program) → classCount p ≤ 254 → fits (plainPieces p) ≡ true → admitted (whole p) ≡ whole p
-  admits p h f = simp (le-leb (classCount p) 254 h, f, admitted)
-
-  -- ---- both layouts of an accepted routine are one
-
-  laid-same : (p : Program) → readFile 1 bytes ≡ whole p → classCount p ≤ 254 → fitting p ≡ fits (plainPieces p)
-  laid-same p r c =
-      ap fits (pieces-same (unsafeSets p) (colorIn p) (exact-colors p (one-spelling 1 bytes p r .good) c) (p .objects) 0)
-
-  -- ---- the run
-
-  runs-it : (p : Program) → Accepted p → (w : Wrote bytes 32768 (newFile p)) → w .routine ≡ p
-      → plainAnswer input limit lent p ≡ runFile (newFile p) input limit lent
+  -- the run
+  runs-it : (p : Program) → Accepted p → plainAnswer input limit lent p ≡ runFile (newFile p) input limit lent
   unfolding runFile tableAfter
-  runs-it p accepted w same =
+  runs-it p accepted =
       let q : Program = instrumented (colorIn p) p in
       let given : Given = givenFor input limit lent in
-      let back : readFile 2 (newFile p) ≡ whole q = w .back ∙ ap (λ (x : Program). whole (instrumented (colorIn x) x)) same in
-      let again : fits (piecesOf (q .objects)) ≡ true = subst (λ (x : Program). fits (piecesOf (instrumented (colorIn x) x .objects)) ≡ true) same (w .again) in
-      let guarding : Guards p q = guards-itself p (accepted .good) (accepted .classes) in
-      let agree : Agree (runs (tableRule q) given (firstTable q)) (plainRun p given) = same-run p q given accepted guarding in
+      let agree : Agree (runs (tableRule q) given (firstTable q)) (plainRun p given) = same-run p q given accepted (guards-itself p accepted) in
       let ran : runProgram input limit lent q ≡ plainAnswer input limit lent p =
       λ i.
       record {
@@ -94,23 +64,67 @@ module _ (bytes input : List ℕ) (limit : ℕ) (lent : Lent) (exact : exactLeng
               room = agree .outs i ++ drop (length (agree .outs i)) (lent .room);
             };
       } in
-      sym (rw (exact, runFile) (ap (runReading input limit lent) back ∙ rw (again, runReading) ran))
+      sym (rw (exact, runFile) (ap (runReading input limit lent) (new-file-reads p accepted) ∙ rw (fits-again p accepted, runReading) ran))
 
-  pub controls : Controls bytes input limit lent (instrument bytes 32768)
-  controls = go (instrument bytes 32768) (answered-because bytes 32768)
-    where
-      go : (a : instrumenting.Answer) → Because bytes 32768 a → Controls bytes input limit lent a
-      go a (unread r) = answered _ r
-      go a (crowded {p} r c) = answered _ r ∙ ap (answerTo input limit lent) (crowds p c)
-      go a (overfull {p} r c f) = answered _ r ∙ ap (answerTo input limit lent) (overflows p c (sym (laid-same p r c) ∙ f))
-      go a (cramped {p} r c f l) =
-          let short = good-of 2 (instrumented (colorIn p) p) (instrumented-good p (one-spelling 1 bytes p r .good) c f) .short in
-          absurd (omega arith)
-      go a (written {p} r c f l) =
-          let plainly : fits (plainPieces p) ≡ true = sym (laid-same p r c) ∙ f in
-          let accepted : Accepted p = record { good = one-spelling 1 bytes p r .good; classes = c; fitting = plainly } in
-          answered _ r ∙ ap (answerTo input limit lent) (admits p c plainly)
-          ∙ runs-it p accepted (wrote bytes 32768 p r c f l) (one-routine (wrote bytes 32768 p r c f l .routine) p (wrote bytes 32768 p r c f l .read) r)
+  controls-because : (a : instrumenting.Answer) → Because bytes 32768 a → Controls bytes input limit lent a
+  controls-because a (Because.unread r) = answered r refl
+  controls-because a (Because.crowded {p} r c) = answered r (crowds p c)
+  controls-because a (Because.overfull {p} r c f) = answered r (overflows p c f)
+  controls-because a (Because.cramped {p} r c f l) =
+      let short : length (newFile p) ≤ 32768 = new-file-short p (record { good = one-spelling 1 bytes p r .good; classes = c; fitting = f }) in
+      absurd (omega arith)
+  controls-because a (Because.written {p} r c f l) =
+      answered r (admits p c f) ∙ runs-it p (record { good = one-spelling 1 bytes p r .good; classes = c; fitting = f })
+
+pub controls : ControlsAsInstrumented
+controls bytes input limit lent exact = controls-because bytes input limit lent exact (instrument bytes 32768) (answered-because bytes 32768)
+
+-- ---- every answer
+
+control-one-to-seven : (n : ℕ) → 1 ≤ n → n ≤ 7 → holds controlNumbers n ≡ true
+control-one-to-seven = one-to-seven (8 ∷ 9 ∷ 11 ∷ [])
+
+not-accepted-listed : (bytes : List ℕ) (q : Refusal) → NotAccepted bytes q → holds controlNumbers (q .number) ≡ true
+unfolding holds
+not-accepted-listed bytes q (NotAccepted.unread why) = read-listed controlNumbers control-one-to-seven 1 bytes q why
+not-accepted-listed bytes q (NotAccepted.crowded p says many) = refl
+not-accepted-listed bytes q (NotAccepted.overfull p says few over) = refl
+
+module _ (bytes input : List ℕ) (limit : ℕ) (lent : Lent) where
+  abbrev Told : Answer → Type 0
+  Told = Answered (ControlRefuses bytes lent) controlNumbers lent
+
+  refused-told : (q : Refusal) → Refuses bytes 32768 q → Told (refuse lent q)
+  refused-told q (Refuses.notAccepted why) = Answered.refused q (ControlRefuses.notAccepted why) (not-accepted-listed bytes q why)
+  refused-told q (Refuses.cramped p says accepted out e wide) =
+      let short : length out ≤ 32768 = wrote bytes 32768 out e .short in
+      absurd (omega arith)
+
+  -- a run of what was written is a run: it is refused for nothing
+  run-told : (out : List ℕ) → instrument bytes 32768 ≡ instrumenting.Answer.file out → exactLengths lent ≡ true → Told (runFile out input limit lent)
+  unfolding runFile
+  run-told out e exact =
+      let w = wrote bytes 32768 out e in
+      let q : Program = instrumented (colorIn (w .routine)) (w .routine) in
+      let read : readFile 2 out ≡ whole q = ap (readFile 2) (sym (w .spelled)) ∙ new-file-reads (w .routine) (w .accepted) in
+      let ran : runFile out input limit lent ≡ runProgram input limit lent q =
+      rw (exact, runFile) (ap (runReading input limit lent) read ∙ rw (fits-again (w .routine) (w .accepted), runReading)) in
+      subst Told (sym ran) (Answered.ended (runProgram input limit lent q) (run-listed input limit lent q))
+
+  told : (a : instrumenting.Answer) → instrument bytes 32768 ≡ a → exactLengths lent ≡ true → Controls bytes input limit lent a → Told (control bytes input limit lent)
+  told (instrumenting.Answer.file out) e exact k = subst Told (sym k) (run-told out e exact)
+  told (instrumenting.Answer.refused q) e exact k =
+      subst Told (sym k) (refused-told q (because-refuses bytes 32768 (instrument bytes 32768) (answered-because bytes 32768) q e))
+
+pub control-is-answered : ControlIsAnswered
+unfolding control holds
+control-is-answered bytes input limit lent = go (exactLengths lent) refl
+  where
+    go : (b : Bool) → exactLengths lent ≡ b → Answered (ControlRefuses bytes lent) controlNumbers lent (control bytes input limit lent)
+    go true e = told bytes input limit lent (instrument bytes 32768) refl e (controls bytes input limit lent e)
+    go false e =
+        subst (Answered (ControlRefuses bytes lent) controlNumbers lent) (sym (rw (e, control)))
+        (Answered.refused (refusal 11 0) (ControlRefuses.lengths e) refl)
 
 -- ---- what the function's returns need
 

@@ -5,28 +5,16 @@ use Prim.Native.Nat.{ℕ}
 use mathlib.Core.List.{List, [], _∷_, _++_}
 use mathlib.Core.Bool.{true, false}
 use lib.ListN.{length, drop}
-use lib.Dec.{leb}
 use Rattle.numbers.specs.declared.Refusal.{Refusal}
 use Rattle.files.specs.Program.{Program}
 use Rattle.files.specs.Reading.{Reading, whole, refusal, readFile}
-use Rattle.coloring.specs.Colored.{classCount}
-use Rattle.layout.specs.Layout.{fits}
-use Rattle.instrumenter.specs.declared.Instrumented.{Instrumented}
+use Rattle.routines.specs.Accepted.{accepted}
 use Rattle.machine.specs.declared.Run.{Run}
 use Rattle.machine.specs.Stop.{numberOf, placeOf}
 use Rattle.machine.specs.State.{Given}
 use Rattle.machine.specs.Running.{Lent, Answer, refuse, exactLengths}
-use Rattle.plain.specs.Plain.{plainPieces, plainRun}
+use Rattle.plain.specs.Plain.{plainRun}
 use Rattle.controller.specs.TableAfter.{tableAfter}
-
--- "8 | more than 254 classes", then "9 | globals end above 28,672"
-abbrev pub admitted : Reading → Reading
-admitted (whole p) =
-    elim (leb (classCount p) 254) [
-      | true ↦ elim (fits (plainPieces p)) [ true ↦ whole p | false ↦ Reading.refused (refusal 9 0) ]
-      | false ↦ Reading.refused (refusal 8 0)
-    ]
-admitted (Reading.refused q) = Reading.refused q
 
 abbrev pub givenFor : (input : List ℕ) (limit : ℕ) → Lent → Given
 givenFor input limit lent = record { input = input; room = length (lent .room); limit = limit }
@@ -55,14 +43,9 @@ answerTo input limit lent (Reading.refused q) = refuse lent q
 unfoldable pub control : (file input : List ℕ) (limit : ℕ) → Lent → Answer
 control file input limit lent =
     elim (exactLengths lent) [
-      | true ↦ answerTo input limit lent (admitted (readFile 1 file))
+      | true ↦ answerTo input limit lent (accepted (readFile 1 file))
       | false ↦ refuse lent (refusal 11 0)
     ]
-
--- the refusal of the instrumenter, where it refused
-abbrev pub whyNot : Instrumented → Refusal
-whyNot (Instrumented.Written n) = refusal 0 0
-whyNot (Instrumented.Refused q) = q
 
 -- "reason, place, steps, numbers out, numbers taken"
 abbrev pub fiveOf : Run → List ℕ

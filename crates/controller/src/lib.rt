@@ -10,8 +10,9 @@ use numbers::Refusal;
 ghost use mathlib.Core.Path.{_≡_};
 ghost use lib.ListN.{length};
 ghost use Rattle.machine.specs.Stop.{refusedRun, numberOf, placeFor};
-ghost use Rattle.machine.specs.Turn.{lentOf, answered};
-ghost use Rattle.controller.specs.Control.{control, whyNot, fiveOf};
+ghost use Rattle.controller.specs.Control.{control, fiveOf};
+ghost use Rattle.controller.specs.Inside.{whyNot};
+ghost use Rattle.machine.specs.Running.{lentOf, answered};
 
 // The record of a routine that was not run.
 fn refused(q: Refusal) -> Run

@@ -22,7 +22,7 @@ use Rattle.opcodes.specs.declared.Instr.{Instr}
 use Rattle.opcodes.specs.Ranges.{Scope, hasSets, within}
 use Rattle.files.specs.Program.{Program, mostCode, longest, kindsOf}
 use Rattle.files.specs.Reading.{Parsed, got, Reading, whole, judged, readFile, afterVersion, afterObjectCount, afterObjects, afterSetCount, afterSets, afterCodeCount, afterCode, objectsFrom, setsFrom, codeFrom}
-use Rattle.files.specs.Writing.{spellFile, spellAll, spellObject, spellSet, spellSets, spellInstr, every, goodObject, rising, goodSet, goodSets, goodInstr, goodProgram, scopeOf, both}
+use Rattle.files.specs.Writing.{spellFile, spellAll, spellObject, spellSet, spellSets, spellInstr, every, goodObject, rising, goodSet, goodSets, goodInstr, goodProgram, scopeOf, both, Says}
 use Rattle.files.proofs.SpelledNumbers.{Stands, stands-nil, stands-append, stands-split, Judged, judged-of-read, read-of-judged}
 use Rattle.opcodes.proofs.Bounds.{within-bounds, within-true}
 use Rattle.files.proofs.Tests.{both-true, both-left, both-right, every-at}
@@ -121,14 +121,9 @@ spelled version file p s =
     let all = stands-append _ _ (s .versioned) (stands-append _ _ (s .counted) (stands-append _ _ (s .objects) (stands-append _ _ (s .sets) (stands-append _ _ (s .lines) (s .code))))) in
     sym (append-nil (spellFile version p)) ∙ ap (λ (l : List ℕ). spellFile version p ++ l) (sym (drop-length file)) ∙ sym (all .stands)
 
--- what reading a file says of it
-pub record ReadAs (version : ℕ) (file : List ℕ) (p : Program) : Type 0 where
-  pub good : goodProgram version p ≡ true
-  pub bytes : spellFile version p ≡ file
-
 module _ (version : ℕ) (file : List ℕ) (p : Program) (fits : length file ≤ longest version) where
   Right : Type 0
-  Right = ReadAs version file p
+  Right = Says version file p
 
   abbrev scopeFor : List Object → List (List ℕ) → ℕ → Scope
   scopeFor objects sets n = record { version = version; kinds = kindsOf objects; sets = length sets; code = n }
@@ -155,7 +150,7 @@ module _ (version : ℕ) (file : List ℕ) (p : Program) (fits : length file ≤
     where
       go : (t : Bool) → eqb next (length file) ≡ t
           → elim t as (λ _. Reading) [ true ↦ whole (record { objects = objects; sets = sets; code = code }) | false ↦ Reading.refused (record { number = 7; place = next }) ] ≡ whole p
-          → ReadAs version file p
+          → Says version file p
       go true q w =
           let made : record { objects = objects; sets = sets; code = code } ≡ p = cc in
           let last : next ≡ length file = eqb-true next (length file) q in
@@ -176,7 +171,7 @@ module _ (version : ℕ) (file : List ℕ) (p : Program) (fits : length file ≤
             code = subst₂ (λ (l : List Instr) (m : ℕ). Stands file e (spellAll (spellInstr version) l) m) (sym (s .whole)) last (s .stood);
           } in
           let bytes : spellFile version (record { objects = objects; sets = sets; code = code }) ≡ file = spelled version file _ pieces in
-          subst (λ (x : Program). ReadAs version file x) made
+          subst (λ (x : Program). Says version file x) made
           (record {
             good =
                 good-from version (record { objects = objects; sets = sets; code = code })
@@ -290,13 +285,13 @@ module _ (version : ℕ) (file : List ℕ) (p : Program) (fits : length file ≤
   versioned (Read.Refused q) r w = let z : _≡_ {A = ℕ} 0 1 = cc in absurd (omega arith)
 
 -- what is read is a good program, and the file is byte for byte its spelling
-pub one-spelling : (version : ℕ) (file : List ℕ) (p : Program) → readFile version file ≡ whole p → ReadAs version file p
+pub one-spelling : (version : ℕ) (file : List ℕ) (p : Program) → readFile version file ≡ whole p → Says version file p
 unfolding readFile Right
 one-spelling version file p e = go (leb (length file) (longest version)) refl e
   where
     go : (t : Bool) → leb (length file) (longest version) ≡ t
         → elim t as (λ _. Reading) [ true ↦ afterVersion version file (judged 4 (within version version) file 0) | false ↦ Reading.refused (record { number = 1; place = 0 }) ] ≡ whole p
-        → ReadAs version file p
+        → Says version file p
     go true q e = versioned version file p (leb-true (length file) (longest version) q) (judged 4 (within version version) file 0) refl e
     go false q e = let z : _≡_ {A = ℕ} 0 1 = cc in absurd (omega arith)
 

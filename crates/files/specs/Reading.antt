@@ -139,6 +139,11 @@ pub data Reading : Type 0 where
   whole : Program → Reading
   refused : Refusal → Reading
 
+-- what comes after reading: a refusal stays as it is
+abbrev pub onWhole : (Program → Reading) → Reading → Reading
+onWhole next (whole p) = next p
+onWhole next (Reading.refused q) = Reading.refused q
+
 -- "7 | bytes after the last instruction | the first of them"
 abbrev pub afterCode : List ℕ → List Object → List (List ℕ) → Parsed (List Instr) → Reading
 afterCode file objects sets (got code next) =

@@ -1,5 +1,6 @@
 -- The bytes of a program in either version, and when a program is one that a file can say.
 use Prim.Native.Nat.{ℕ, _+_}
+use mathlib.Core.Path.{_≡_}
 use mathlib.Core.List.{List, [], _∷_, _++_}
 use mathlib.Core.Bool.{Bool, true, false}
 use lib.ListN.{length}
@@ -110,3 +111,8 @@ goodProgram version p =
     (both (within 1 (mostCode version) (length (p .code)))
     (both (every (goodInstr (scopeOf version p)) (p .code))
     (leb (length (spellFile version p)) (longest version))))))
+
+-- a file says a program: a good one, of which the file is the spelling
+pub record Says (version : ℕ) (file : List ℕ) (p : Program) : Type 0 where
+  pub good : goodProgram version p ≡ true
+  pub bytes : spellFile version p ≡ file

@@ -10,12 +10,12 @@ use Rattle.opcodes.specs.declared.Instr.{Instr}
 use Rattle.opcodes.specs.declared.Instr.the-variants.{End, Place, Add, Sub, Less, Load8, Load32, Put8, Put32, Write8, Write32, Jump, JumpIf, Alloc, Free, In, Out, Check8, Check32, CheckPut8, CheckPut32}
 use Rattle.opcodes.specs.View.{view}
 use Rattle.opcodes.proofs.Instr.{the-type}
-use Rattle.instrumenter.specs.Instrumented.{moved}
 use borrow.Author.Tests.{eq-eqb, ne-eqb}
 use Rattle.instrumenter.specs.Arrays.{checkFor, startIn, firstIn, checkNature, checkIn}
 use Rattle.coloring.specs.declared.Nature.{Nature}
 use Rattle.coloring.specs.Nature.{natureOf, sizesIn}
 use Rattle.coloring.proofs.Nature
+use Rattle.opcodes.specs.Moved.{moved}
 
 -- the opcodes that are no store, and those that are copied as they are
 abbrev pub unstored : List ℕ

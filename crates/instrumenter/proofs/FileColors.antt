@@ -4,11 +4,12 @@ use mathlib.Core.Path.{_≡_}
 use mathlib.Core.List.{List}
 use mathlib.Core.Bool.{true, false}
 use lib.ListN.{length}
+use borrow.Author.Tests.{leb-true}
 use Rattle.files.specs.Program.{Program}
 use Rattle.files.specs.Writing.{goodProgram}
 use Rattle.coloring.specs.Unsafe.{unsafeSets}
 use Rattle.coloring.specs.Class.{unsafeObject}
-use Rattle.coloring.specs.Colored.{colorIn, classCount}
+use Rattle.coloring.specs.Colored.{colorIn, classCount, fewClasses}
 use Rattle.coloring.proofs.Colors.{color-safe, color-low, color-high}
 use Rattle.coloring.proofs.Bounds.{unsafe-below}
 use Rattle.files.proofs.RoundTrip.{good-of}
@@ -18,11 +19,11 @@ pub record FileColors (sets : List (List ℕ)) (color : ℕ → ℕ) : Type 0 wh
   pub low : (x : ℕ) → unsafeObject sets x ≡ true → 2 ≤ color x
   pub high : (x : ℕ) → color x ≤ 255
 
-pub file-colors : (p : Program) → goodProgram 1 p ≡ true → classCount p ≤ 254 → FileColors (unsafeSets p) (colorIn p)
+pub file-colors : (p : Program) → goodProgram 1 p ≡ true → fewClasses p ≡ true → FileColors (unsafeSets p) (colorIn p)
 file-colors p good few =
     let sets = unsafeSets p in
     record {
       safe = color-safe sets;
       low = color-low sets;
-      high = color-high sets (length (p .objects)) few (unsafe-below p (good-of 1 p good));
+      high = color-high sets (length (p .objects)) (leb-true (classCount p) 254 few) (unsafe-below p (good-of 1 p good));
     }

@@ -12,8 +12,9 @@ use Rattle.opcodes.specs.declared.Instr.{Instr}
 use Rattle.opcodes.specs.declared.Instr.the-variants.{End, Place, Add, Sub, Less, Load8, Load32, Put8, Put32, Write8, Write32, Jump, JumpIf, Alloc, Free, In, Out, Check8, Check32, CheckPut8, CheckPut32}
 use Rattle.files.specs.Program.{Program}
 use Rattle.opcodes.specs.View.{one, four, Aim, inGlobal, atTemp, View, act, jump, jumpIf, store, check, view, checkInstr}
-use Rattle.instrumenter.specs.Instrumented.{checkOf, moved, guarded, spanOf, newPlace}
-use Rattle.instrumenter.proofs.Spans.{length-guarded}
+use Rattle.instrumenter.specs.Instrumented.{checksOf, checkOf, guarded, spanOf, newPlace}
+use Rattle.instrumenter.proofs.Spans.{span-append, guarded-append, length-guarded}
+use Rattle.opcodes.specs.Moved.{moved}
 
 -- what an instruction is in version 2
 abbrev pub movedView : (target : ℕ → ℕ) → View → View
@@ -54,55 +55,42 @@ view-check (atTemp a one) c = refl
 view-check (atTemp a four) c = refl
 
 module _ (color : ℕ → ℕ) (p : Program) where
-  pub guarded-append : (target : ℕ → ℕ) (xs ys : List Instr)
-      → guarded color p target (xs ++ ys) ≡ guarded color p target xs ++ guarded color p target ys
-  unfolding guarded
-  guarded-append target [] ys = refl
-  guarded-append target (x ∷ xs) ys =
-      ap (λ r. checkOf color p (view x) ++ (moved target x ∷ r)) (guarded-append target xs ys)
-      ∙ sym (append-assoc (checkOf color p (view x)) (moved target x ∷ guarded color p target xs) (guarded color p target ys))
-
-  span-append : (xs ys : List Instr) → spanOf color p (xs ++ ys) ≡ spanOf color p xs + spanOf color p ys
-  unfolding spanOf
-  span-append [] ys = omega arith
-  span-append (x ∷ xs) ys = omega (arith, span-append xs ys)
-
   -- ---- version 2's code
 
   abbrev pub code₂ : List Instr
-  code₂ = guarded color p (newPlace color p) (p .code)
+  code₂ = guarded (checksOf color p) (newPlace color p) (p .code)
 
   abbrev pub before₂ : (k : ℕ) → List Instr
-  before₂ k = guarded color p (newPlace color p) (take k (p .code))
+  before₂ k = guarded (checksOf color p) (newPlace color p) (take k (p .code))
 
   pub length-before₂ : (k : ℕ) → length (before₂ k) ≡ newPlace color p k
   unfolding newPlace
-  length-before₂ k = length-guarded color p (newPlace color p) (take k (p .code))
+  length-before₂ k = length-guarded (checksOf color p) (newPlace color p) (take k (p .code))
 
   pub place-past : (k : ℕ) → length (p .code) ≤ k → length code₂ ≡ newPlace color p k
   place-past k past =
-      ap (λ l. length (guarded color p (newPlace color p) l)) (sym (take-all k (p .code) past)) ∙ length-before₂ k
+      ap (λ l. length (guarded (checksOf color p) (newPlace color p) l)) (sym (take-all k (p .code) past)) ∙ length-before₂ k
 
   module _ (k : ℕ) (inside : k < length (p .code)) where
     abbrev instr : Instr
     instr = getD (p .code) k End
 
     -- version 2 cut at the new place of instruction k
-    pub parts₂ : code₂ ≡ before₂ k ++ (checkOf color p (view instr) ++ (moved (newPlace color p) instr ∷ guarded color p (newPlace color p) (drop (suc k) (p .code))))
+    pub parts₂ : code₂ ≡ before₂ k ++ (checkOf color p (view instr) ++ (moved (newPlace color p) instr ∷ guarded (checksOf color p) (newPlace color p) (drop (suc k) (p .code))))
     unfolding guarded
     parts₂ =
-        ap (guarded color p (newPlace color p)) (split-at (p .code) k End inside)
-        ∙ guarded-append (newPlace color p) (take k (p .code)) (instr ∷ drop (suc k) (p .code))
+        ap (guarded (checksOf color p) (newPlace color p)) (split-at (p .code) k End inside)
+        ∙ guarded-append (checksOf color p) (newPlace color p) (take k (p .code)) (instr ∷ drop (suc k) (p .code))
 
     pub place-next : newPlace color p (k + 1) ≡ newPlace color p k + length (checkOf color p (view instr)) + 1
     unfolding newPlace spanOf
     place-next =
-        ap (λ n. spanOf color p (take n (p .code))) (add-one k)
-        ∙ ap (spanOf color p) (take-suc (p .code) k End inside)
-        ∙ span-append (take k (p .code)) (instr ∷ [])
+        ap (λ n. spanOf (checksOf color p) (take n (p .code))) (add-one k)
+        ∙ ap (spanOf (checksOf color p)) (take-suc (p .code) k End inside)
+        ∙ span-append (checksOf color p) (take k (p .code)) (instr ∷ [])
         ∙ omega arith
 
-    length-parts : length code₂ ≡ newPlace color p k + (length (checkOf color p (view instr)) + suc (length (guarded color p (newPlace color p) (drop (suc k) (p .code)))))
+    length-parts : length code₂ ≡ newPlace color p k + (length (checkOf color p (view instr)) + suc (length (guarded (checksOf color p) (newPlace color p) (drop (suc k) (p .code)))))
     length-parts =
         ap length parts₂
         ∙ length-append (before₂ k) _
@@ -119,7 +107,7 @@ module _ (color : ℕ → ℕ) (p : Program) where
         record {
           inside₂ = omega (arith, length-parts);
           here =
-              ap (λ l. getD l (newPlace color p k) End) (parts₂ ∙ ap (λ c. before₂ k ++ (c ++ (moved (newPlace color p) instr ∷ guarded color p (newPlace color p) (drop (suc k) (p .code))))) e)
+              ap (λ l. getD l (newPlace color p k) End) (parts₂ ∙ ap (λ c. before₂ k ++ (c ++ (moved (newPlace color p) instr ∷ guarded (checksOf color p) (newPlace color p) (drop (suc k) (p .code))))) e)
               ∙ getD-at (before₂ k) (moved (newPlace color p) instr) _ End (newPlace color p k) (length-before₂ k);
           follows = place-next ∙ ap (λ c. newPlace color p k + length c + 1) e ∙ omega arith;
         }
@@ -133,7 +121,7 @@ module _ (color : ℕ → ℕ) (p : Program) where
 
     pub checked : (c : Instr) → checkOf color p (view instr) ≡ c ∷ [] → Checked c
     checked c e =
-        let rest : List Instr = guarded color p (newPlace color p) (drop (suc k) (p .code)) in
+        let rest : List Instr = guarded (checksOf color p) (newPlace color p) (drop (suc k) (p .code)) in
         let is : code₂ ≡ before₂ k ++ (c ∷ (moved (newPlace color p) instr ∷ rest)) = parts₂ ∙ ap (λ l. before₂ k ++ (l ++ (moved (newPlace color p) instr ∷ rest))) e in
         record {
           inside₂ = omega (arith, ap length e, length-parts);

@@ -1,13 +1,14 @@
 -- In a routine that a file says, a store names an object of the file or a set of it; so its set is never
 -- empty, and the set's first object, whose color its check has, is an unsafe object of the file.
 use Prim.Native.Nat.{ℕ, _<_}
-use mathlib.Core.Path.{_≡_}
-use mathlib.Core.List.{List, [], _∷_, _++_}
+use mathlib.Core.Path.{_≡_, ap}
+use mathlib.Core.List.{List, [], _∷_, _++_, map}
 use mathlib.Core.Bool.{true, false}
 use lib.ListN.{length, getD}
 use Rattle.files.specs.Program.{Program}
 use Rattle.opcodes.specs.View.{Aim, inGlobal, atTemp, store}
-use Rattle.coloring.specs.Unsafe.{safeAim, setOf, unsafeSet}
+use Rattle.coloring.specs.Unsafe.{safeAim, setOf, Unsafe, unsafeSet}
+use Rattle.coloring.proofs.Stores.{unsafe-one}
 use Rattle.coloring.specs.Class.{holds, unsafeObject}
 use Rattle.coloring.proofs.Members.{some-here, holds-here, holds-at}
 use Rattle.coloring.proofs.Bounds.{member-below}
@@ -25,7 +26,7 @@ module _ (p : Program) (good : Good 1 p) where
       member-below p good s (getD (getD (p .sets) s []) 0 0) l (first-held (atTemp a w) s l)
 
   set-unsafe : (aim : Aim) (b s : ℕ) → safeAim p aim ≡ false → unsafeSet p (store aim b s) ≡ setOf p aim s ∷ []
-  set-unsafe aim b s e = rw (e, unsafeSet)
+  set-unsafe aim b s e = ap (map (λ (u : Unsafe). u .set)) (unsafe-one p aim b s e)
 
   -- the first object of an unsafe store's set is unsafe
   pub store-unsafe : (aim : Aim) (b s : ℕ) (rest : List (List ℕ)) → NamesAim p aim s → safeAim p aim ≡ false

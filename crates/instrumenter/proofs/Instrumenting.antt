@@ -11,10 +11,9 @@ use Rattle.opcodes.specs.Ranges.{within}
 use Rattle.files.specs.Program.{Program, kindsOf}
 use Rattle.files.specs.Writing.{every, goodObject, goodInstr, scopeOf, goodProgram, spellFile}
 use Rattle.coloring.specs.Unsafe.{unsafeSets}
-use Rattle.coloring.specs.Colored.{tinted, colorIn, classCount}
+use Rattle.coloring.specs.Colored.{tinted, colorIn, fewClasses}
 use Rattle.coloring.proofs.Tinted.{tinted-length}
-use Rattle.layout.specs.Layout.{piecesOf, fits}
-use Rattle.instrumenter.specs.Instrumented.{guarded, newPlace, instrumented}
+use Rattle.instrumenter.specs.Instrumented.{checksOf, guarded, newPlace, instrumented}
 use Rattle.files.proofs.Tests.{both-true}
 use Rattle.files.proofs.RoundTrip.{Good, good-of, lines-bounds}
 use Rattle.opcodes.proofs.Bounds.{within-true}
@@ -29,14 +28,14 @@ module _ (p : Program) (color : ℕ → ℕ) (good : goodProgram 1 p ≡ true) (
   colored-good =
       let r : Good 1 p = good-of 1 p good in
       let lines = lines-bounds p r in
-      let code = guarded color p (newPlace color p) (p .code) in
+      let code = guarded (checksOf color p) (newPlace color p) (p .code) in
       let objects = tinted color 0 (p .objects) in
       let kinds : kindsOf objects ≡ kindsOf (p .objects) = kinds-tinted color 0 (p .objects) in
       let scope = scopeOf 2 (instrumented color p) in
       let a : leb (length objects) 400 ≡ true = le-leb (length objects) 400 (rw tinted-length (r .objects-most)) in
       let b : every (goodObject 2) objects ≡ true = good-tinted color (is-color p color colors) 0 (p .objects) (r .objects) in
-      let upto : length code ≤ 2000 = omega (arith, length-guarded color p (newPlace color p) (p .code), span-most color p (p .code), lines .1) in
-      let from : 1 ≤ length code = omega (arith, length-guarded color p (newPlace color p) (p .code), span-least color p (p .code), lines .0) in
+      let upto : length code ≤ 2000 = omega (arith, length-guarded (checksOf color p) (newPlace color p) (p .code), span-most color p (p .code), lines .1) in
+      let from : 1 ≤ length code = omega (arith, length-guarded (checksOf color p) (newPlace color p) (p .code), span-least color p (p .code), lines .0) in
       let d : within 1 2000 (length code) ≡ true = within-true 1 2000 (length code) from upto in
       let e : every (goodInstr (newScope p (length code))) code ≡ true =
       good-guarded p r (length code) (newPlace color p)
@@ -53,7 +52,6 @@ module _ (p : Program) (color : ℕ → ℕ) (good : goodProgram 1 p ≡ true) (
       (both-true (within 1 2000 (length code)) _ d
       (both-true (every (goodInstr scope) code) _ e′ f)))
 
--- for every routine that is accepted: what a file says, with at most 254 classes and globals that fit
-pub instrumented-good : (p : Program) → goodProgram 1 p ≡ true → classCount p ≤ 254 → fits (piecesOf (tinted (colorIn p) 0 (p .objects))) ≡ true
-    → goodProgram 2 (instrumented (colorIn p) p) ≡ true
-instrumented-good p good few fitting = colored-good p (colorIn p) good (file-colors p good few)
+-- for every routine that a file says, with at most 254 classes
+pub instrumented-good : (p : Program) → goodProgram 1 p ≡ true → fewClasses p ≡ true → goodProgram 2 (instrumented (colorIn p) p) ≡ true
+instrumented-good p good few = colored-good p (colorIn p) good (file-colors p good few)

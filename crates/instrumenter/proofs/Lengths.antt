@@ -19,8 +19,10 @@ use Rattle.opcodes.specs.View.{Aim, inGlobal, atTemp, View, act, jump, jumpIf, 
 use Rattle.coloring.specs.Unsafe.{safeAim, setOf}
 use Rattle.coloring.specs.Colored.{tinted}
 use Rattle.coloring.proofs.Tinted.{tinted-length}
-use Rattle.instrumenter.specs.Instrumented.{colorOfSet, checkOf, moved, guarded, newPlace, instrumented}
+use Rattle.instrumenter.specs.Instrumented.{checksOf, checkOf, guarded, newPlace, instrumented}
 use Rattle.instrumenter.proofs.Spans.{check-safe, check-unsafe}
+use Rattle.coloring.specs.Color.{colorOfSet}
+use Rattle.opcodes.specs.Moved.{moved}
 
 -- a color takes at most two bytes
 color-width : (c : ℕ) → c ≤ 255 → width c ≤ 2
@@ -111,14 +113,14 @@ module _ (color : ℕ → ℕ) (small : (x : ℕ) → color x ≤ 255) where
   moved-length target (CheckPut32 g k c) = omega arith
 
   code-longer : (p : Program) (target : ℕ → ℕ) (code : List Instr)
-      → length (spellAll (spellInstr 2) (guarded color p target code)) ≤ length (spellAll (spellInstr 1) code) + 13 * length code
+      → length (spellAll (spellInstr 2) (guarded (checksOf color p) target code)) ≤ length (spellAll (spellInstr 1) code) + 13 * length code
   unfolding guarded
   code-longer p target [] = omega (arith, length-nil (spellInstr 2))
   code-longer p target (i ∷ code) =
-      rw (length-spellAll (spellInstr 2) (checkOf color p (view i)) (moved target i ∷ guarded color p target code))
+      rw (length-spellAll (spellInstr 2) (checkOf color p (view i)) (moved target i ∷ guarded (checksOf color p) target code))
       (omega (
         arith,
-        length-cons (spellInstr 2) (moved target i) (guarded color p target code),
+        length-cons (spellInstr 2) (moved target i) (guarded (checksOf color p) target code),
         length-cons (spellInstr 1) i code,
         checks-length p (view i),
         moved-length target i,
@@ -137,6 +139,6 @@ module _ (color : ℕ → ℕ) (small : (x : ℕ) → color x ≤ 255) where
         code-longer p (newPlace color p) (p .code),
         width-last 1 (omega arith),
         width-last 2 (omega arith),
-        width-most (length (guarded color p (newPlace color p) (p .code))),
+        width-most (length (guarded (checksOf color p) (newPlace color p) (p .code))),
         width-least (length (p .code)),
       ))

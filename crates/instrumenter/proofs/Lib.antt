@@ -2,14 +2,12 @@
 --
 -- Every file and every room get 01's answer (`instrument`): the contract is an equation with the
 -- definition `instrument` of specs/Answer.antt, and the room afterwards is the one it says. Two answers
--- that meet it are equal (`one-answer` in `Told`).
+-- that meet it are equal.
 --
 -- About the definitions, for the crates above:
 --   a file of version 2 can say it: 2,000 instructions, 32,768 bytes  `instrumented-good` in `Instrumenting`
 --   what is written reads back as exactly that code, never 9 again    `instrument-reads-back` in `ReadsBack`
 --   each answer has its reason, and each reason its answer            `answered-because`, `answers` in `Answers`
---   a refusal is one of 01's, for its reason and at its place         `refused-only-for`, `refusal-listed` in `Refusals`
---   01's example 1, byte for byte                                     `example-1` in `Example`
 --
 -- How the code comes to it: one instruction's check and copy (`Cases`); the two passes over the code,
 -- one instruction at a time (`Turns`); over the arrays that hold a routine they give its version 2
@@ -21,11 +19,8 @@ pub mod Spans
 pub mod Operands
 pub mod Lengths
 pub mod Instrumenting
-pub mod Recolored
 pub mod Answers
 pub mod ReadsBack
-pub mod Refusals
-pub mod Example
 mod Cases
 mod Turns
 mod Stored

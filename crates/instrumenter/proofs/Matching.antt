@@ -5,26 +5,28 @@ use mathlib.Core.Path.{_≡_, refl, _∙_, ap, ap₂}
 use mathlib.Core.List.{List, [], _∷_, _++_, map}
 use mathlib.Core.Bool.{Bool, true, false}
 use lib.ListN.{length, getD}
-use lib.Dec.{leb, ltb}
+use lib.Dec.{ltb}
 use borrow.Author.Tests.{lt-ltb}
 use Rattle.opcodes.specs.declared.Instr.{Instr}
 use Rattle.opcodes.specs.declared.Instr.the-variants.{End, Place, Add, Sub, Less, Load8, Load32, Put8, Put32, Write8, Write32, Jump, JumpIf, Alloc, Free, In, Out, Check8, Check32, CheckPut8, CheckPut32}
 use Rattle.files.specs.Program.{Program}
 use Rattle.files.specs.Writing.{every, goodInstr, scopeOf}
-use Rattle.opcodes.specs.View.{inGlobal, atTemp, View, act, jump, jumpIf, store, check, view, checkInstr, bytes, extent}
+use Rattle.opcodes.specs.View.{inGlobal, atTemp, View, act, jump, jumpIf, store, check, view, checkInstr, bytes}
 use Rattle.files.specs.Held.{filled, endsFrom, joined}
-use Rattle.coloring.specs.Unsafe.{sizeOf}
+use Rattle.coloring.specs.Unsafe.{sizeOf, safePut, safeAim, Unsafe}
+use Rattle.coloring.specs.Color.{colorOfSet}
 use Rattle.coloring.specs.Colored.{tinted}
 use Rattle.coloring.specs.declared.Nature.{Nature}
 use Rattle.coloring.specs.Nature.{putNature, natureOf, sizesIn}
 use Rattle.coloring.proofs.Tinted.{tinted-size}
-use Rattle.instrumenter.specs.Instrumented.{checkOf, moved, guarded, spanOf}
-use Rattle.instrumenter.specs.Arrays.{checkFor, firstIn, checkNature, checkIn, guardedIn, spanIn}
+use Rattle.instrumenter.specs.Instrumented.{checksOf, checkOf, guarded, spanOf}
+use Rattle.instrumenter.specs.Arrays.{checkFor, firstIn, checkNature, checkIn}
 use Rattle.files.proofs.Tests.{every-head, every-tail}
 use Rattle.files.proofs.GoodInstructions.{Names, names}
 use Rattle.files.proofs.RoundTrip.{Good, set-some}
 use Rattle.instrumenter.proofs.Inside.{first-below}
 use Rattle.instrumenter.proofs.Stored.{size-at, color-at, first-at}
+use Rattle.opcodes.specs.Moved.{moved}
 
 abbrev pub sizesHeld : (color : ℕ → ℕ) → Program → List ℕ
 sizesHeld color p = filled 400 0 (map (λ o. o .size) (tinted color 0 (p .objects)))
@@ -48,8 +50,8 @@ pick safe unsafe = elim safe [ true ↦ [] | false ↦ unsafe ]
 module _ (p : Program) (r : Good 1 p) (color : ℕ → ℕ) where
   -- ---- one check
 
-  by-nature : (v : View) (size g k n : ℕ) → checkNature (colorsHeld color p) (endsHeld p) (membersHeld p) v (putNature size g k n) ≡ pick (leb (k + n) (extent size)) (checkFor v (getD (colorsHeld color p) g 0) ∷ [])
-  by-nature v size g k n = go (leb (k + n) (extent size))
+  by-nature : (v : View) (size g k n : ℕ) → checkNature (colorsHeld color p) (endsHeld p) (membersHeld p) v (putNature size g k n) ≡ pick (safePut size k n) (checkFor v (getD (colorsHeld color p) g 0) ∷ [])
+  by-nature v size g k n = go (safePut size k n)
     where
       go : (b : Bool) → checkNature (colorsHeld color p) (endsHeld p) (membersHeld p) v (elim b [ true ↦ Nature.Safe | false ↦ Nature.Own g ]) ≡ pick b (checkFor v (getD (colorsHeld color p) g 0) ∷ [])
       go true = refl
@@ -66,7 +68,13 @@ module _ (p : Program) (r : Good 1 p) (color : ℕ → ℕ) where
       rw (low, sizesIn) (size-at 400 (tinted color 0 (p .objects)) o ∙ tinted-size color 0 (p .objects) o)
       in
       by-nature (store (inGlobal o k w) b s) (sizesIn (sizesHeld color p) o) o k (bytes w)
-      ∙ ap₂ (λ (n c : ℕ). pick (leb (k + bytes w) (extent n)) (checkInstr (inGlobal o k w) c ∷ [])) size (color-at 400 color (p .objects) o (g .0))
+      ∙ ap₂ (λ (n c : ℕ). pick (safePut n k (bytes w)) (checkInstr (inGlobal o k w) c ∷ [])) size (color-at 400 color (p .objects) o (g .0))
+      ∙ mapped (safeAim p (inGlobal o k w))
+    where
+      mapped : (safe : Bool) → pick safe (checkInstr (inGlobal o k w) (color o) ∷ [])
+          ≡ map (λ (u : Unsafe). checkInstr (u .aim) (colorOfSet color (u .set))) (elim safe as (λ _. List Unsafe) [ true ↦ [] | false ↦ record { aim = inGlobal o k w; set = o ∷ [] } ∷ [] ])
+      mapped true = refl
+      mapped false = refl
   check-matches (store (atTemp a w) b s) g =
       let first : firstIn (endsHeld p) (membersHeld p) s ≡ getD (getD (p .sets) s []) 0 0 = first-at 400 16384 (p .sets) s g (set-some p r s g) in
       ap (λ (x : ℕ). checkInstr (atTemp a w) (getD (colorsHeld color p) x 0) ∷ []) first
@@ -79,8 +87,8 @@ module _ (p : Program) (r : Good 1 p) (color : ℕ → ℕ) where
 
   -- ---- places
 
-  pub span-held : (code : List Instr) → every (goodInstr (scopeOf 1 p)) code ≡ true → spanIn (checksHeld color p) code ≡ spanOf color p code
-  unfolding spanIn spanOf
+  pub span-held : (code : List Instr) → every (goodInstr (scopeOf 1 p)) code ≡ true → spanOf (checksHeld color p) code ≡ spanOf (checksOf color p) code
+  unfolding spanOf
   span-held [] h = refl
   span-held (i ∷ code) h =
       ap₂ (λ (c : List Instr) (n : ℕ). length c + 1 + n)
@@ -114,10 +122,10 @@ module _ (p : Program) (r : Good 1 p) (color : ℕ → ℕ) where
     moved-same (CheckPut8 g k c) h = refl
     moved-same (CheckPut32 g k c) h = refl
 
-    pub guarded-held : (code : List Instr) → every (goodInstr (scopeOf 1 p)) code ≡ true → guardedIn (checksHeld color p) target code ≡ guarded color p other code
-    unfolding guardedIn guarded
+    pub guarded-held : (code : List Instr) → every (goodInstr (scopeOf 1 p)) code ≡ true → guarded (checksHeld color p) target code ≡ guarded (checksOf color p) other code
+    unfolding guarded
     guarded-held [] h = refl
     guarded-held (i ∷ code) h =
         let g : goodInstr (scopeOf 1 p) i ≡ true = every-head (goodInstr (scopeOf 1 p)) i code h in
-        ap₂ (λ (c : List Instr) (j : Instr). c ++ j ∷ guardedIn (checksHeld color p) target code) (check-held i g) (moved-same i (names p i g))
+        ap₂ (λ (c : List Instr) (j : Instr). c ++ j ∷ guarded (checksHeld color p) target code) (check-held i g) (moved-same i (names p i g))
         ∙ ap (λ (l : List Instr). checkOf color p (view i) ++ moved other i ∷ l) (guarded-held code (every-tail (goodInstr (scopeOf 1 p)) i code h))

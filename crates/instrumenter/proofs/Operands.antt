@@ -19,7 +19,7 @@ use Rattle.coloring.specs.Unsafe.{safeAim, setOf, unsafeSet, setsIn, unsafeSets
 use Rattle.coloring.specs.Class.{holds, unsafeObject}
 use Rattle.coloring.proofs.Members.{some-behind}
 use Rattle.coloring.specs.Colored.{tinted}
-use Rattle.instrumenter.specs.Instrumented.{colorOfSet, checkOf, moved, guarded}
+use Rattle.instrumenter.specs.Instrumented.{checksOf, checkOf, guarded}
 use Rattle.instrumenter.proofs.FileColors.{FileColors}
 use Rattle.files.proofs.Tests.{no-test, both-left, both-right, both-true, every-head, every-tail, every-cons, every-append}
 use Rattle.files.proofs.GoodInstructions.{Names, names}
@@ -27,6 +27,8 @@ use Rattle.files.proofs.RoundTrip.{Good}
 use Rattle.opcodes.proofs.Bounds.{within-true}
 use Rattle.instrumenter.proofs.Inside.{store-unsafe}
 use Rattle.instrumenter.proofs.Spans.{check-safe, check-unsafe}
+use Rattle.coloring.specs.Color.{colorOfSet}
+use Rattle.opcodes.specs.Moved.{moved}
 
 -- ---- objects
 
@@ -161,14 +163,14 @@ module _ (p : Program) (r : Good 1 p) (lines : ℕ) (target : ℕ → ℕ) (insi
   -- the whole code, where what is unsafe in it has a color
   pub good-guarded : (color : ℕ → ℕ) (code : List Instr) → every (goodInstr (scopeOf 1 p)) code ≡ true
       → ((x : ℕ) → unsafeObject (setsIn p code) x ≡ true → within 2 255 (color x) ≡ true)
-      → every (goodInstr (newScope p lines)) (guarded color p target code) ≡ true
+      → every (goodInstr (newScope p lines)) (guarded (checksOf color p) target code) ≡ true
   unfolding guarded setsIn every
   good-guarded color [] h tint = refl
   good-guarded color (i ∷ code) h tint =
       let g : goodInstr (scopeOf 1 p) i ≡ true = every-head (goodInstr (scopeOf 1 p)) i code h in
-      every-append (goodInstr (newScope p lines)) (checkOf color p (view i)) (moved target i ∷ guarded color p target code)
+      every-append (goodInstr (newScope p lines)) (checkOf color p (view i)) (moved target i ∷ guarded (checksOf color p) target code)
       (checks-in color (view i) (setsIn p code) (names p i g) (good-check i g) tint)
-      (every-cons (goodInstr (newScope p lines)) (moved target i) (guarded color p target code)
+      (every-cons (goodInstr (newScope p lines)) (moved target i) (guarded (checksOf color p) target code)
       (good-moved i g)
       (good-guarded color code
       (every-tail (goodInstr (scopeOf 1 p)) i code h)

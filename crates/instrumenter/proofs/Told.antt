@@ -16,48 +16,72 @@ use Rattle.files.specs.declared.Written.{Written}
 use Rattle.files.proofs.Outcome
 use Rattle.files.proofs.Written
 use Rattle.files.specs.Program.{Program}
-use Rattle.files.specs.Reading.{Reading, whole, refusal, readFile}
+use Rattle.files.specs.Reading.{Reading, whole, refusal, onWhole, readFile}
 use Rattle.files.specs.Writing.{goodProgram}
 use Rattle.files.specs.Held.{held, heldAs, writable, fileOf, writtenIn, roomWith}
-use Rattle.coloring.specs.Colored.{tinted, withColors, colorIn, classCount, colored}
+use Rattle.coloring.specs.Colored.{tinted, withColors, colorIn, fewClasses, colored}
 use Rattle.coloring.proofs.Tinted.{tinted-length}
 use Rattle.layout.specs.declared.Layout.{Layout}
-use Rattle.layout.specs.Layout.{piecesOf, piecesIn, endOf, layoutOf}
+use Rattle.layout.specs.Layout.{piecesOf, endOf}
+use Rattle.layout.specs.Arrays.{piecesIn, layoutOf}
 use Rattle.layout.proofs.Pieces.{pieces-held}
+use Rattle.routines.specs.Accepted.{globalsFit}
+use Rattle.routines.proofs.Layouts.{own-fit}
 use Rattle.instrumenter.specs.declared.Instrumented.{Instrumented}
-use Rattle.instrumenter.specs.Answer.{Answer, file, laidOut, answerFor, instrument, roomHolding, told}
+use Rattle.instrumenter.specs.Answer.{Answer, file, newFile, instrument, roomHolding, told}
 use Rattle.instrumenter.specs.Arrays.{Version2}
-use Rattle.files.proofs.RoundTrip.{one-spelling, good-of, lines-bounds}
+use Rattle.files.proofs.RoundTrip.{one-spelling, good-of, lines-bounds, whole-not-refused}
 use Rattle.instrumenter.proofs.Instrumenting.{instrumented-good}
-use Rattle.instrumenter.proofs.Answers.{fitting, newFile, overfull, cramped, written, answers}
+use Rattle.instrumenter.proofs.Answers.{Because, unread, crowded, overfull, cramped, written, answers}
 use Rattle.instrumenter.proofs.Version.{file-is, writable-is}
 
 -- the code's answer, and the room that it leaves
 abbrev pub Answers : (bytes room : List ℕ) → Instrumented → (after : List ℕ) → Type 0
 Answers bytes room r after = (r ≡ told (instrument bytes (length room))) × (after ≡ roomHolding room (instrument bytes (length room)))
 
--- two answers that meet the contract are equal
-pub one-answer : (bytes room : List ℕ) {r r′ : Instrumented} {after after′ : List ℕ} → Answers bytes room r after → Answers bytes room r′ after′ → (r ≡ r′) × (after ≡ after′)
-one-answer bytes room a b = (a .0 ∙ sym (b .0), a .1 ∙ sym (b .1))
-
 answer : (bytes room : List ℕ) (a : Answer) → instrument bytes (length room) ≡ a → Answers bytes room (told a) (roomHolding room a)
 answer bytes room a e = (ap told (sym e), ap (roomHolding room) (sym e))
 
 module _ (bytes : List ℕ) where
+  -- ---- what coloring gives of a routine that reads
+
+  few-colored : (p : Program) → readFile 1 bytes ≡ whole p → fewClasses p ≡ true → colored (readFile 1 bytes) ≡ whole (withColors (colorIn p) p)
+  unfolding colored
+  few-colored p r c =
+      ap colored r
+      ∙ ap (λ (b : Bool). onWhole (λ p. whole (withColors (colorIn p) p)) (elim b [ true ↦ whole p | false ↦ Reading.refused (refusal 8 0) ])) c
+
+  many-colored : (p : Program) → readFile 1 bytes ≡ whole p → fewClasses p ≡ false → colored (readFile 1 bytes) ≡ Reading.refused (refusal 8 0)
+  unfolding colored
+  many-colored p r c =
+      ap colored r
+      ∙ ap (λ (b : Bool). onWhole (λ p. whole (withColors (colorIn p) p)) (elim b [ true ↦ whole p | false ↦ Reading.refused (refusal 8 0) ])) c
+
   -- ---- a file that is refused with 1 to 8
 
-  refused-by : (n : ℕ) (x : Reading) (q : Refusal) → colored (readFile 1 bytes) ≡ x → held x .outcome ≡ Outcome.Refused q → instrument bytes n ≡ Answer.refused q
-  unfolding instrument
-  refused-by n (whole p) q e o = let z : _≡_ {A = ℕ} 0 1 = cc in absurd (omega arith)
-  refused-by n (Reading.refused q′) q e o =
-      let same : q′ ≡ q = cc in
-      ap (λ (x : Reading). answerFor n (laidOut x)) e ∙ ap Answer.refused same
+  refused-by : (q : Refusal) → held (colored (readFile 1 bytes)) .outcome ≡ Outcome.Refused q → (room : List ℕ) → Answers bytes room (Instrumented.Refused q) room
+  unfolding colored
+  refused-by q o room = reading (readFile 1 bytes) refl
+    where
+      same : {q′ : Refusal} → colored (readFile 1 bytes) ≡ Reading.refused q′ → q′ ≡ q
+      same {q′} e = let z : Outcome.Refused q′ ≡ Outcome.Refused q = sym (ap (λ (x : Reading). held x .outcome) e) ∙ o in cc
+
+      so : {q′ : Refusal} → colored (readFile 1 bytes) ≡ Reading.refused q′ → Because bytes (length room) (Answer.refused q′) → Answers bytes room (Instrumented.Refused q) room
+      so {q′} e b = subst (λ (x : Refusal). Answers bytes room (Instrumented.Refused x) room) (same e) (answer bytes room (Answer.refused q′) (answers bytes (length room) b))
+
+      counted : (p : Program) → readFile 1 bytes ≡ whole p → (b : Bool) → fewClasses p ≡ b → Answers bytes room (Instrumented.Refused q) room
+      counted p r true c =
+          let w : Outcome.Whole ≡ Outcome.Refused q = sym (ap (λ (x : Reading). held x .outcome) (few-colored p r c)) ∙ o in
+          absurd (whole-not-refused (sym w))
+      counted p r false c = so (many-colored p r c) (crowded r c)
+
+      reading : (x : Reading) → readFile 1 bytes ≡ x → Answers bytes room (Instrumented.Refused q) room
+      reading (whole p) r = counted p r (fewClasses p) refl
+      reading (Reading.refused q′) r = so (ap colored r) (unread r)
 
   pub told-refused : (room : List ℕ) (l : Loaded) (q : Refusal) → l ≡ held (colored (readFile 1 bytes)) → l .outcome ≡ Outcome.Refused q
       → Answers bytes room (Instrumented.Refused q) room
-  told-refused room l q e o =
-      answer bytes room (Answer.refused q)
-      (refused-by (length room) (colored (readFile 1 bytes)) q refl (sym (ap (λ (x : Loaded). x .outcome) e) ∙ o))
+  told-refused room l q e o = refused-by q (sym (ap (λ (x : Loaded). x .outcome) e) ∙ o) room
 
   -- ---- a routine that is held with its colors
 
@@ -65,7 +89,7 @@ module _ (bytes : List ℕ) where
     pub routine : Program
     pub read : readFile 1 bytes ≡ whole routine
     pub good : goodProgram 1 routine ≡ true
-    pub classes : classCount routine ≤ 254
+    pub classes : fewClasses routine ≡ true
     pub is : l ≡ heldAs Outcome.Whole (withColors (colorIn routine) routine)
 
   pub kept : (l : Loaded) → l ≡ held (colored (readFile 1 bytes)) → tagOf Rattle.files.proofs.Outcome.the-type (l .outcome) ≡ 0 → Kept l
@@ -81,19 +105,19 @@ module _ (bytes : List ℕ) where
           let z : _≡_ {A = ℕ} 0 1 = sym t ∙ ap (tagOf Rattle.files.proofs.Outcome.the-type) o in
           absurd (omega arith)
 
-      counted : (p : Program) → readFile 1 bytes ≡ whole p → (b : Bool) → leb (classCount p) 254 ≡ b → Kept l
+      counted : (p : Program) → readFile 1 bytes ≡ whole p → (b : Bool) → fewClasses p ≡ b → Kept l
       counted p r true c =
           record {
             routine = p;
             read = r;
             good = one-spelling 1 bytes p r .good;
-            classes = leb-true (classCount p) 254 c;
-            is = wholly (whole (withColors (colorIn p) p)) (ap colored r ∙ rw (c, colored));
+            classes = c;
+            is = wholly (whole (withColors (colorIn p) p)) (few-colored p r c);
           }
-      counted p r false c = no (refusal 8 0) (ap colored r ∙ rw (c, colored))
+      counted p r false c = no (refusal 8 0) (many-colored p r c)
 
       reading : (x : Reading) → readFile 1 bytes ≡ x → Kept l
-      reading (whole p) r = counted p r (leb (classCount p) 254) refl
+      reading (whole p) r = counted p r (fewClasses p) refl
       reading (Reading.refused q) r = no q (ap colored r)
 
   module _ (l : Loaded) (k : Kept l) where
@@ -115,15 +139,16 @@ module _ (bytes : List ℕ) where
     told-overfull room laid e h =
         let over : 28672 < endOf (piecesOf (tinted (colorIn (k .routine)) 0 (k .routine .objects))) = omega (arith, end-is laid e) in
         answer bytes room (Answer.refused (refusal 9 0))
-        (answers bytes (length room) (overfull (k .read) (k .classes) (lt-leb (endOf (piecesOf (tinted (colorIn (k .routine)) 0 (k .routine .objects)))) 28672 over)))
+        (answers bytes (length room)
+        (overfull (k .read) (k .classes) (sym (own-fit (k .routine)) ∙ lt-leb (endOf (piecesOf (tinted (colorIn (k .routine)) 0 (k .routine .objects)))) 28672 over)))
 
-    pub fits-held : (laid : Layout) → laid ≡ layoutOf (piecesIn (l .kinds) (l .sizes) (l .colors) (l .objects)) → laid .end ≤ 28672 → fitting (k .routine) ≡ true
+    pub fits-held : (laid : Layout) → laid ≡ layoutOf (piecesIn (l .kinds) (l .sizes) (l .colors) (l .objects)) → laid .end ≤ 28672 → globalsFit (k .routine) ≡ true
     fits-held laid e h =
-        le-leb (endOf (piecesOf (tinted (colorIn (k .routine)) 0 (k .routine .objects)))) 28672 (omega (arith, end-is laid e))
+        sym (own-fit (k .routine)) ∙ le-leb (endOf (piecesOf (tinted (colorIn (k .routine)) 0 (k .routine .objects)))) 28672 (omega (arith, end-is laid e))
 
     -- ---- what writing leaves
 
-    module _ (q : Loaded) (v : Version2 l q) (fit : fitting (k .routine) ≡ true) (room : List ℕ) where
+    module _ (q : Loaded) (v : Version2 l q) (fit : globalsFit (k .routine) ≡ true) (room : List ℕ) where
       w : Version2 (heldAs Outcome.Whole (withColors (colorIn (k .routine)) (k .routine))) q
       w = subst (λ (x : Loaded). Version2 x q) (k .is) v
 
@@ -133,7 +158,7 @@ module _ (bytes : List ℕ) where
       can : writable q ≡ true
       can =
           writable-is (k .routine) (good-of 1 (k .routine) (k .good)) (colorIn (k .routine)) q w
-          (instrumented-good (k .routine) (k .good) (k .classes) fit)
+          (instrumented-good (k .routine) (k .good) (k .classes))
 
       room-wide : length (newFile (k .routine)) ≤ length room
           → (writtenIn room q ≡ Written.Upto (length (newFile (k .routine)))) × (roomWith room q ≡ roomHolding room (file (newFile (k .routine))))

@@ -11,11 +11,13 @@ use Rattle.opcodes.specs.declared.Instr.{Instr}
 use Rattle.files.specs.declared.Line.{Line}
 use Rattle.files.specs.Held.{filled, line}
 use Rattle.files.proofs.Filled.{map-more}
-use Rattle.instrumenter.specs.Instrumented.{moved}
-use Rattle.instrumenter.specs.Arrays.{guardedIn, spanIn, instrsIn, asList}
+use Rattle.instrumenter.specs.Arrays.{instrsIn, asList}
 use Rattle.instrumenter.specs.declared.checks.Before.{Before}
 use Rattle.instrumenter.proofs.checks.Before.{the-type}
 use denote.Enum.Declared.{tagOf}
+use Rattle.opcodes.specs.Moved.{moved}
+use Rattle.instrumenter.proofs.Spans.{span-append, guarded-append}
+use Rattle.instrumenter.specs.Instrumented.{guarded, spanOf}
 
 -- a check counts for one
 pub span-check : (b : Before) → tagOf the-type b ≡ 1 → (2 ≡ length (asList b) + 1) × (2 ≤ 2)
@@ -29,19 +31,6 @@ span-nothing (Before.Check i) h = absurd (omega arith)
 abbrev pub blank : Line
 blank = line Instr.End
 
-module _ (checks : Instr → List Instr) where
-  pub span-append : (xs ys : List Instr) → spanIn checks (xs ++ ys) ≡ spanIn checks xs + spanIn checks ys
-  unfolding spanIn
-  span-append [] ys = omega arith
-  span-append (x ∷ xs) ys = omega (arith, span-append xs ys)
-
-  pub guarded-append : (target : ℕ → ℕ) (xs ys : List Instr) → guardedIn checks target (xs ++ ys) ≡ guardedIn checks target xs ++ guardedIn checks target ys
-  unfolding guardedIn
-  guarded-append target [] ys = refl
-  guarded-append target (x ∷ xs) ys =
-      ap (λ (l : List Instr). checks x ++ moved target x ∷ l) (guarded-append target xs ys)
-      ∙ sym (append-assoc (checks x) (moved target x ∷ guardedIn checks target xs) (guardedIn checks target ys))
-
 -- the first at + 1 instructions of an array are the first `at` and the one there
 pub take-more : (code : List Line) (at : ℕ) → at < length code → take (at + 1) (instrsIn code) ≡ take at (instrsIn code) ++ (getD code at blank .instr) ∷ []
 take-more code at l =
@@ -51,21 +40,21 @@ take-more code at l =
 -- what stands in the array after the first `at` instructions
 pub record Upto (checks : Instr → List Instr) (target : ℕ → ℕ) (code : List Line) (lines at next : ℕ) (out : List Line) : Type 0 where
   pub inside : at ≤ lines
-  pub next-is : next ≡ length (guardedIn checks target (take at (instrsIn code)))
+  pub next-is : next ≡ length (guarded checks target (take at (instrsIn code)))
   pub next-most : next ≤ 2 * at
-  pub out-is : out ≡ filled 2000 blank (map line (guardedIn checks target (take at (instrsIn code))))
+  pub out-is : out ≡ filled 2000 blank (map line (guarded checks target (take at (instrsIn code))))
 
 -- the new places of the first `at` instructions
 pub record Placed (checks : Instr → List Instr) (code : List Line) (lines at place : ℕ) (places : List ℕ) : Type 0 where
   pub inside : at ≤ lines
-  pub place-is : place ≡ spanIn checks (take at (instrsIn code))
+  pub place-is : place ≡ spanOf checks (take at (instrsIn code))
   pub place-most : place ≤ 2 * at
   pub long : length places ≡ 1000
-  pub upto : (t : ℕ) → t < at → getD places t 0 ≡ spanIn checks (take t (instrsIn code))
+  pub upto : (t : ℕ) → t < at → getD places t 0 ≡ spanOf checks (take t (instrsIn code))
 
 module _ (checks : Instr → List Instr) (code : List Line) (lines : ℕ) where
   pub placed-none : (places : List ℕ) → length places ≡ 1000 → Placed checks code lines 0 0 places
-  unfolding spanIn
+  unfolding spanOf
   placed-none places l =
       record { inside = omega arith; place-is = refl; place-most = omega arith; long = l; upto = λ t h. absurd (omega arith) }
 
@@ -73,13 +62,13 @@ module _ (checks : Instr → List Instr) (code : List Line) (lines : ℕ) where
   pub placed-more : (at place span : ℕ) (places : List ℕ) → length code ≡ 2000 → lines ≤ 1000 → at < lines → Placed checks code lines at place places
       → (i : Instr) → i ≡ getD code at blank .instr → span ≡ length (checks i) + 1 → span ≤ 2
       → Placed checks code lines (at + 1) (place + span) (set places at place)
-  unfolding spanIn
+  unfolding spanOf
   placed-more at place span places whole few l p i is sp two =
       let at-in : at < length code = omega arith in
       let more = take-more code at at-in in
-      let turn : spanIn checks (take (at + 1) (instrsIn code)) ≡ spanIn checks (take at (instrsIn code)) + (length (checks i) + 1 + 0) =
-      ap (spanIn checks) more ∙ span-append checks (take at (instrsIn code)) (getD code at blank .instr ∷ [])
-      ∙ ap (λ (j : Instr). spanIn checks (take at (instrsIn code)) + (length (checks j) + 1 + 0)) (sym is)
+      let turn : spanOf checks (take (at + 1) (instrsIn code)) ≡ spanOf checks (take at (instrsIn code)) + (length (checks i) + 1 + 0) =
+      ap (spanOf checks) more ∙ span-append checks (take at (instrsIn code)) (getD code at blank .instr ∷ [])
+      ∙ ap (λ (j : Instr). spanOf checks (take at (instrsIn code)) + (length (checks j) + 1 + 0)) (sym is)
       in
       record {
         inside = omega arith;
@@ -89,7 +78,7 @@ module _ (checks : Instr → List Instr) (code : List Line) (lines : ℕ) where
         upto = λ t h. here t h (decLt t at);
       }
     where
-      here : (t : ℕ) → t < at + 1 → Dec (t < at) → getD (set places at place) t 0 ≡ spanIn checks (take t (instrsIn code))
+      here : (t : ℕ) → t < at + 1 → Dec (t < at) → getD (set places at place) t 0 ≡ spanOf checks (take t (instrsIn code))
       here t h (yes k) = getD-set-other places at t place 0 (λ (e : t ≡ at). omega arith) ∙ p .upto t k
       here t h (no k) =
           let e : t ≡ at = omega arith in
@@ -98,19 +87,19 @@ module _ (checks : Instr → List Instr) (code : List Line) (lines : ℕ) where
 -- ---- the second pass: after the check of an instruction, and after its copy
 
 pub record Half (checks : Instr → List Instr) (target : ℕ → ℕ) (code : List Line) (at : ℕ) (i : Instr) (next : ℕ) (out : List Line) : Type 0 where
-  pub next-is : next ≡ length (guardedIn checks target (take at (instrsIn code)) ++ checks i)
+  pub next-is : next ≡ length (guarded checks target (take at (instrsIn code)) ++ checks i)
   pub next-most : next ≤ 2 * at + 1
-  pub out-is : out ≡ filled 2000 blank (map line (guardedIn checks target (take at (instrsIn code)) ++ checks i))
+  pub out-is : out ≡ filled 2000 blank (map line (guarded checks target (take at (instrsIn code)) ++ checks i))
 
 module _ (checks : Instr → List Instr) (target : ℕ → ℕ) (code : List Line) (lines : ℕ) where
   pub upto-none : Upto checks target code lines 0 0 (filled 2000 blank [])
-  unfolding guardedIn
+  unfolding guarded
   upto-none = record { inside = omega arith; next-is = refl; next-most = omega arith; out-is = refl }
 
   module _ (at next : ℕ) (out : List Line) (u : Upto checks target code lines at next out) (i : Instr) (b : Before) (is : asList b ≡ checks i) where
     pub half-check : at < 1000 → (k : Instr) → b ≡ Before.Check k → (n : ℕ) (o : List Line) → o ≡ set out next (line k) → n ≡ next + 1 → Half checks target code at i n o
     half-check few k e n o oe ne =
-        let done = guardedIn checks target (take at (instrsIn code)) in
+        let done = guarded checks target (take at (instrsIn code)) in
         let c : k ∷ [] ≡ checks i = sym (ap asList e) ∙ is in
         let most = u .next-most in
         record {
@@ -127,7 +116,7 @@ module _ (checks : Instr → List Instr) (target : ℕ → ℕ) (code : List Lin
         none : (b : Before) → asList b ≡ checks i → tagOf the-type b ≡ 0 → Half checks target code at i n o
         none Before.Nothing is t =
             let most = u .next-most in
-            let done = guardedIn checks target (take at (instrsIn code)) in
+            let done = guarded checks target (take at (instrsIn code)) in
             let e : done ≡ done ++ checks i = sym (append-nil done) ∙ ap (λ (l : List Instr). done ++ l) is in
             record {
               next-is = ne ∙ u .next-is ∙ ap length e;
@@ -138,16 +127,16 @@ module _ (checks : Instr → List Instr) (target : ℕ → ℕ) (code : List Lin
 
   pub upto-more : (at next : ℕ) (out : List Line) (i r : Instr) → length code ≡ 2000 → lines ≤ 1000 → at < lines → Half checks target code at i next out
       → i ≡ getD code at blank .instr → r ≡ moved target i → Upto checks target code lines (at + 1) (next + 1) (set out next (line r))
-  unfolding guardedIn
+  unfolding guarded
   upto-more at next out i r whole few l h ie re =
-      let done = guardedIn checks target (take at (instrsIn code)) in
+      let done = guarded checks target (take at (instrsIn code)) in
       let most = h .next-most in
-      let e : (done ++ checks i) ++ r ∷ [] ≡ guardedIn checks target (take (at + 1) (instrsIn code)) =
+      let e : (done ++ checks i) ++ r ∷ [] ≡ guarded checks target (take (at + 1) (instrsIn code)) =
       append-assoc done (checks i) (r ∷ [])
       ∙ ap (λ (x : Instr). done ++ (checks i ++ x ∷ [])) re
       ∙ ap (λ (x : Instr). done ++ (checks x ++ moved target x ∷ [])) ie
       ∙ sym (guarded-append checks target (take at (instrsIn code)) (getD code at blank .instr ∷ []))
-      ∙ sym (ap (guardedIn checks target) (take-more code at (omega arith)))
+      ∙ sym (ap (guarded checks target) (take-more code at (omega arith)))
       in
       record {
         inside = omega arith;

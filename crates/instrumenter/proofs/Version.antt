@@ -18,8 +18,8 @@ use Rattle.files.specs.Writing.{both, goodInstr, scopeOf, goodProgram, spellFil
 use Rattle.files.specs.Held.{filled, line, heldAs, objectAt, tabulate, shown, writable, fileOf}
 use Rattle.coloring.specs.Colored.{tinted, withColors}
 use Rattle.coloring.proofs.Tinted.{tinted-length}
-use Rattle.instrumenter.specs.Instrumented.{instrumented, guarded, newPlace}
-use Rattle.instrumenter.specs.Arrays.{Version2, guardedIn, spanIn, instrsIn}
+use Rattle.instrumenter.specs.Instrumented.{checksOf, instrumented, guarded, newPlace, spanOf}
+use Rattle.instrumenter.specs.Arrays.{Version2, instrsIn}
 use Rattle.files.proofs.Tests.{both-true, every-take}
 use Rattle.files.proofs.Filled.{lines-filled}
 use Rattle.files.proofs.RoundTrip.{Good, lines-bounds}
@@ -33,22 +33,22 @@ module _ (p : Program) (r : Good 1 p) (color : ℕ → ℕ) (q : Loaded) (w : Ve
   target t = getD (w .places) t 0
 
   abbrev newCode : List Instr
-  newCode = guarded color p (newPlace color p) (p .code)
+  newCode = guarded (checksOf color p) (newPlace color p) (p .code)
 
   -- the places are the new places
   places-are : (t : ℕ) → t < length (p .code) → target t ≡ newPlace color p t
   unfolding newPlace
   places-are t l =
       w .placed t l
-      ∙ ap (spanIn (checksHeld color p)) (code-at 2000 blank (p .code) t (omega arith))
+      ∙ ap (spanOf (checksHeld color p)) (code-at 2000 blank (p .code) t (omega arith))
       ∙ span-held p r color (take t (p .code)) (every-take (goodInstr (scopeOf 1 p)) t (p .code) (r .code))
 
   held-code : take (length (p .code)) (instrsIn (filled 2000 blank (map line (p .code)))) ≡ p .code
   held-code = code-at 2000 blank (p .code) (length (p .code)) (omega arith) ∙ take-length (p .code)
 
-  code-is : guardedIn (checksHeld color p) target (take (length (p .code)) (instrsIn (filled 2000 blank (map line (p .code))))) ≡ newCode
+  code-is : guarded (checksHeld color p) target (take (length (p .code)) (instrsIn (filled 2000 blank (map line (p .code))))) ≡ newCode
   code-is =
-      ap (guardedIn (checksHeld color p) target) held-code
+      ap (guarded (checksHeld color p) target) held-code
       ∙ guarded-held p r color target (newPlace color p) places-are (p .code) (r .code)
 
   pub lines-are : q .lines ≡ length newCode
@@ -80,6 +80,6 @@ module _ (p : Program) (r : Good 1 p) (color : ℕ → ℕ) (q : Loaded) (w : Ve
   unfolding writable
   writable-is g =
       let few : q .objects ≤ 400 = omega (arith, w .objects, tinted-length color 0 (p .objects), r .objects-most) in
-      let short : q .lines ≤ 2000 = omega (arith, lines-are, length-guarded color p (newPlace color p) (p .code), span-most color p (p .code), lines-bounds p r .1) in
+      let short : q .lines ≤ 2000 = omega (arith, lines-are, length-guarded (checksOf color p) (newPlace color p) (p .code), span-most color p (p .code), lines-bounds p r .1) in
       both-true (leb (q .objects) 400) (both (leb (q .lines) 2000) (goodProgram 2 (shown q))) (le-leb (q .objects) 400 few)
       (both-true (leb (q .lines) 2000) (goodProgram 2 (shown q)) (le-leb (q .lines) 2000 short) (ap (goodProgram 2) shown-is ∙ g))

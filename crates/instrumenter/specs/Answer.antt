@@ -5,10 +5,11 @@ use mathlib.Core.Bool.{true, false}
 use lib.ListN.{length, drop}
 use lib.Dec.{leb}
 use Rattle.numbers.specs.declared.Refusal.{Refusal}
+use Rattle.files.specs.Program.{Program}
 use Rattle.files.specs.Reading.{Reading, whole, refusal, readFile}
 use Rattle.files.specs.Writing.{spellFile}
-use Rattle.coloring.specs.Colored.{colorIn, colored}
-use Rattle.layout.specs.Layout.{piecesOf, fits}
+use Rattle.coloring.specs.Colored.{colorIn}
+use Rattle.routines.specs.Accepted.{accepted}
 use Rattle.instrumenter.specs.Instrumented.{instrumented}
 use Rattle.instrumenter.specs.declared.Instrumented.{Instrumented}
 
@@ -16,25 +17,20 @@ pub data Answer : Type 0 where
   file : List ℕ → Answer
   refused : Refusal → Answer
 
--- "9 | globals end above 28,672 | 0"
-abbrev pub laidOut : Reading → Reading
-laidOut (whole p) = elim (fits (piecesOf (p .objects))) [ true ↦ whole p | false ↦ Reading.refused (refusal 9 0) ]
-laidOut (Reading.refused q) = Reading.refused q
-
--- the routine with its colors, or refusal 1 to 9
-abbrev pub accepted : (bytes : List ℕ) → Reading
-accepted bytes = laidOut (colored (readFile 1 bytes))
+-- version 2 of a routine, as a file
+abbrev pub newFile : Program → List ℕ
+newFile p = spellFile 2 (instrumented (colorIn p) p)
 
 -- "10 | room for the version 2 file too small | 0"
 abbrev pub roomFor : (room : ℕ) → List ℕ → Answer
 roomFor room bytes = elim (leb (length bytes) room) [ true ↦ file bytes | false ↦ Answer.refused (refusal 10 0) ]
 
 abbrev pub answerFor : (room : ℕ) → Reading → Answer
-answerFor room (whole p) = roomFor room (spellFile 2 (instrumented (colorIn p) p))
+answerFor room (whole p) = roomFor room (newFile p)
 answerFor room (Reading.refused q) = Answer.refused q
 
 unfoldable pub instrument : (bytes : List ℕ) (room : ℕ) → Answer
-instrument bytes room = answerFor room (accepted bytes)
+instrument bytes room = answerFor room (accepted (readFile 1 bytes))
 
 -- the room afterwards
 abbrev pub roomHolding : (room : List ℕ) → Answer → List ℕ

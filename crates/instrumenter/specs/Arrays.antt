@@ -14,7 +14,7 @@ use Rattle.files.specs.Held.{filled, line}
 use Rattle.coloring.specs.declared.Nature.{Nature}
 use Rattle.coloring.specs.Nature.{natureOf, sizesIn}
 use Rattle.instrumenter.specs.declared.checks.Before.{Before}
-use Rattle.instrumenter.specs.Instrumented.{moved}
+use Rattle.instrumenter.specs.Instrumented.{guarded, spanOf}
 
 -- where set s starts among the members: behind the set before it
 abbrev pub startIn : (ends : List ℕ) (s : ℕ) → ℕ
@@ -48,15 +48,6 @@ checkNature colors ends members v Nature.Other = []
 unfoldable pub checkIn : (sizes colors ends members : List ℕ) → Instr → List Instr
 checkIn sizes colors ends members i = checkNature colors ends members (view i) (natureOf (sizesIn sizes) (view i))
 
--- the whole code, for any checks and any new targets
-unfoldable pub guardedIn : (checks : Instr → List Instr) (target : ℕ → ℕ) → List Instr → List Instr
-guardedIn checks target [] = []
-guardedIn checks target (i ∷ code) = checks i ++ moved target i ∷ guardedIn checks target code
-
-unfoldable pub spanIn : (checks : Instr → List Instr) → List Instr → ℕ
-spanIn checks [] = 0
-spanIn checks (i ∷ code) = length (checks i) + 1 + spanIn checks code
-
 -- ---- what the two passes leave, over the code that an array holds
 
 abbrev pub instrsIn : List Line → List Instr
@@ -64,12 +55,12 @@ instrsIn code = map (λ x. x .instr) code
 
 -- each of the first `lines` instructions has its new place
 abbrev pub PlacesAre : (checks : Instr → List Instr) (code : List Line) (lines : ℕ) (places : List ℕ) → Type 0
-PlacesAre checks code lines places = (t : ℕ) → t < lines → getD places t 0 ≡ spanIn checks (take t (instrsIn code))
+PlacesAre checks code lines places = (t : ℕ) → t < lines → getD places t 0 ≡ spanOf checks (take t (instrsIn code))
 
 -- the first `lines` instructions, each behind its check
 pub record CodeIs (checks : Instr → List Instr) (target : ℕ → ℕ) (code : List Line) (lines count : ℕ) (out : List Line) : Type 0 where
-  pub count-is : count ≡ length (guardedIn checks target (take lines (instrsIn code)))
-  pub code-is : out ≡ filled 2000 (line Instr.End) (map line (guardedIn checks target (take lines (instrsIn code))))
+  pub count-is : count ≡ length (guarded checks target (take lines (instrsIn code)))
+  pub code-is : out ≡ filled 2000 (line Instr.End) (map line (guarded checks target (take lines (instrsIn code))))
 
 -- ---- the held program with its code in version 2
 

@@ -5,8 +5,8 @@ use opcodes::Instr;
 ghost use mathlib.Core.Path.{_≡_};
 ghost use lib.ListN.{getD};
 ghost use Rattle.opcodes.specs.View.{view};
-ghost use Rattle.instrumenter.specs.Instrumented.{moved};
 ghost use Rattle.instrumenter.specs.Arrays.{startIn, firstIn, checkFor, asList, checkIn};
+ghost use Rattle.opcodes.specs.Moved.{moved};
 
 // What stands directly before the copy of an instruction.
 pub enum Before {

@@ -26,7 +26,7 @@ pub enum Instrumented {
     Refused(Refusal),
 }
 
-// The held program with its code in version 2; it has no sets.
+// The held program with its code in version 2, where the sets no longer count.
 fn version_2(p: Loaded) -> Loaded
     requires { ⌜ p .lines ≤ 1000 ⌝ }
     ensures { λ r. ⌜ Version2 p r ⌝ }
@@ -45,7 +45,6 @@ fn version_2(p: Loaded) -> Loaded
     );
     let checked = guarded.code;
     let mut q = p;
-    q.sets = 0;
     q.lines = guarded.lines;
     q.code = checked;
     q

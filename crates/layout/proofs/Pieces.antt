@@ -13,7 +13,8 @@ use Rattle.files.specs.declared.Object.{Object}
 use Rattle.files.proofs.Filled.{filled-more, getD-filled, getD-filled-map}
 use Rattle.files.proofs.Tabulated.{length-tabulate, getD-tabulate-zero, take-tabulate, tabulate-last}
 use Rattle.layout.specs.declared.Layout.{Layout}
-use Rattle.layout.specs.Layout.{Piece, total, safeSpace, unsafeSpace, unsafeFrom, startOf, placeFor, layoutOf, piecesIn, piecesOf, pieceOf, pieceAt, counted}
+use Rattle.layout.specs.Layout.{Piece, total, safeSpace, unsafeSpace, unsafeFrom, startOf, piecesOf, pieceOf}
+use Rattle.layout.specs.Arrays.{placeFor, layoutOf, piecesIn, pieceAt, counted}
 
 -- ---- sums
 

@@ -7,7 +7,8 @@ ghost use Prim.Native.Nat.{_+_, _*_, _≤_, _<_};
 ghost use lib.Dec.{eqb};
 ghost use Rattle.opcodes.specs.View.{extent};
 ghost use Rattle.files.specs.Held.{tabulate};
-ghost use Rattle.layout.specs.Layout.{pieceAt, piecesIn, layoutOf, safeSpace, unsafeSpace, total, unsafeFrom, placeFor, counted};
+ghost use Rattle.layout.specs.Layout.{safeSpace, unsafeSpace, total, unsafeFrom};
+ghost use Rattle.layout.specs.Arrays.{pieceAt, piecesIn, layoutOf, placeFor, counted};
 
 // The start of each object, 0 for those that are not there, and where the last guard ends.
 pub struct Layout {

@@ -15,7 +15,7 @@ use Rattle.machine.specs.declared.Reason.{Reason}
 use Rattle.machine.specs.State.{Rule, Given, State, temp}
 use Rattle.machine.specs.Step.{Effect, stops, passes, completes, actEffect, allocating, freeing}
 
--- the reasons that instrumented code may meet: all but "35 store outside memory" and "38 unsound heap"
+-- the reasons that instrumented code may stop for: all but "35 store outside memory" and "38 unsound heap"
 abbrev pub Calm : Reason → Type 0
 Calm Reason.Finished = Unit {0}
 Calm Reason.PastEnd = Unit {0}
@@ -27,7 +27,7 @@ Calm Reason.StoreOutside = ⊥
 Calm Reason.Forbidden = Unit {0}
 Calm Reason.BadFree = Unit {0}
 Calm Reason.Unsound = ⊥
-Calm (Reason.Refused q) = Unit {0}
+Calm (Reason.Refused q) = ⊥
 
 -- a state under another rule, at another place
 abbrev pub image : {S T : Type 0} → State S → (at : ℕ) → T → State T

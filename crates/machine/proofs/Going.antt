@@ -23,8 +23,8 @@ use Rattle.machine.specs.declared.Turn.{Turn}
 use Rattle.machine.specs.State.{Rule, Given, State}
 use Rattle.machine.specs.Step.{Next, stop, next, perform, step}
 use Rattle.machine.specs.Runs.{stopped, runFrom}
-use Rattle.machine.specs.Running.{Lent, Answer, leaves}
-use Rattle.machine.specs.Turn.{heldRule, Held, held, stateOf, Turned, progressOf, landed, turnOf, recordOf, lentOf, answered, runHeld}
+use Rattle.machine.specs.Running.{Lent, Answer, leaves, lentOf, answered}
+use Rattle.machine.specs.Turn.{heldRule, Held, held, stateOf, Turned, progressOf, landed, turnOf, recordOf, runHeld}
 use Rattle.machine.proofs.Steps.{step-past, step-limit, step-goes}
 use Rattle.machine.proofs.Turns.{turn-on, turn-stop, Forth, forth, weight, lighter}
 

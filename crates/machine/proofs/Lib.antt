@@ -12,7 +12,6 @@
 --   Agreeing         the rule over what is held asks the table's rule nothing that it answers otherwise
 --   Temporaries      each temporary that an accepted file's code names is one of the 16
 --   Loading          from what the reader holds to the run of the program; the refusals
---   Limits           steps are at most the limit; the instruction that stops changes nothing
 -- Of the definitions alone:
 --   Steps            what a step is, by where it stands and what is left of the limit
 --   Effects          two rules whose own states are tied: what an instruction calculates is the same
@@ -30,4 +29,3 @@ pub mod Starting
 pub mod Agreeing
 pub mod Temporaries
 pub mod Loading
-pub mod Limits

@@ -27,7 +27,8 @@ use Rattle.files.proofs.Tabulated.{length-tabulate, getD-tabulate-zero}
 use Rattle.files.proofs.Filled.{getD-filled, getD-filled-map, lines-filled}
 use Rattle.files.proofs.RoundTrip.{Good, good-read, whole-not-refused}
 use Rattle.layout.specs.declared.Layout.{Layout}
-use Rattle.layout.specs.Layout.{Piece, piecesOf, startOf, endOf, fits, total, safeSpace, unsafeSpace, unsafeFrom, layoutOf}
+use Rattle.layout.specs.Layout.{Piece, piecesOf, startOf, endOf, fits, total, safeSpace, unsafeSpace, unsafeFrom}
+use Rattle.layout.specs.Arrays.{layoutOf}
 use Rattle.layout.proofs.Pieces.{pieces-held}
 use Rattle.heap.specs.Memory.{memorySize, tableSize}
 use Rattle.heap.specs.Heap.{paintMade, paintFreed, emptyHeap}
@@ -38,8 +39,8 @@ use Rattle.machine.specs.Stop.{refusedRun}
 use Rattle.machine.specs.State.{Given, State, blankMemory, startState}
 use Rattle.machine.specs.Runs.{runFrom, runs}
 use Rattle.machine.specs.Colors.{tableAllows, colorOfObject, tableRule, firstTable}
-use Rattle.machine.specs.Running.{Lent, Answer, refuse, leaves, runProgram, runReading, runFile}
-use Rattle.machine.specs.Turn.{heldRule, Low, AllNarrow, codeOf, lentOf, answered, runHeld}
+use Rattle.machine.specs.Running.{Lent, Answer, refuse, leaves, runProgram, runReading, runFile, lentOf, answered}
+use Rattle.machine.specs.Turn.{heldRule, Low, AllNarrow, codeOf, runHeld}
 use Rattle.machine.specs.Start.{piecesHeld, laidTable, Runnable, runLoaded}
 use Rattle.machine.proofs.Starting.{noObject, start-is, laid-first}
 use Rattle.machine.proofs.Agreeing.{same-runs, agrees}

@@ -17,7 +17,8 @@ use Rattle.opcodes.specs.View.{extent}
 use Rattle.files.specs.Held.{filled}
 use Rattle.files.specs.Program.{Program}
 use Rattle.files.proofs.Filled.{getD-filled-map}
-use Rattle.layout.specs.Layout.{pieceOf, piecesOf, startOf, endOf, layoutOf}
+use Rattle.layout.specs.Layout.{pieceOf, piecesOf, startOf, endOf}
+use Rattle.layout.specs.Arrays.{layoutOf}
 use Rattle.layout.proofs.Places.{ends-below}
 use Rattle.layout.proofs.Pieces.{start-held}
 use Rattle.heap.specs.Memory.{tableSize, slot, paint}

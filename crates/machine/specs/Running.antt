@@ -25,6 +25,12 @@ pub record Answer : Type 0 where
   pub run : Run
   pub lent : Lent
 
+abbrev pub lentOf : (memory table room : List ℕ) → Lent
+lentOf memory table room = record { memory = memory; table = table; room = room }
+
+abbrev pub answered : Run → Lent → Answer
+answered run lent = record { run = run; lent = lent }
+
 -- "A refusal changes no lent byte"
 abbrev pub refuse : Lent → Refusal → Answer
 refuse lent q = record { run = refusedRun q; lent = lent }

@@ -8,12 +8,13 @@ use lib.Dec.{eqb}
 use Rattle.files.specs.declared.Loaded.{Loaded}
 use Rattle.opcodes.specs.View.{extent}
 use Rattle.files.specs.Reading.{refusal}
-use Rattle.layout.specs.Layout.{Piece, piecesIn, layoutOf, fits}
+use Rattle.layout.specs.Layout.{Piece, fits}
+use Rattle.layout.specs.Arrays.{piecesIn, layoutOf}
 use Rattle.heap.specs.Memory.{memorySize, tableSize}
 use Rattle.heap.specs.Heap.{heapStart, endSlot}
 use Rattle.heap.specs.Lent.{painted, started}
-use Rattle.machine.specs.Running.{Lent, Answer, refuse}
-use Rattle.machine.specs.Turn.{AllNarrow, codeOf, lentOf, runHeld}
+use Rattle.machine.specs.Running.{Lent, Answer, refuse, lentOf}
+use Rattle.machine.specs.Turn.{AllNarrow, codeOf, runHeld}
 
 -- the slots of a global; a heap site has none at the start
 abbrev pub paintOne : (table : List ℕ) (kind start size color : ℕ) → List ℕ

@@ -216,12 +216,6 @@ abbrev pub recordOf : List Instr → Progress → Reason → Run
 recordOf code p reason =
     record { reason = reason; place = placeIn code (p .at); steps = p .steps; out = p .out; taken = p .taken }
 
-abbrev pub lentOf : (memory table room : List ℕ) → Lent
-lentOf memory table room = record { memory = memory; table = table; room = room }
-
-abbrev pub answered : Run → Lent → Answer
-answered run lent = record { run = run; lent = lent }
-
 -- a run from memory and table that are laid out
 abbrev pub runHeld : (code : List Instr) (starts colors input : List ℕ) (limit : ℕ) → Lent → Answer
 runHeld code starts colors input limit lent =

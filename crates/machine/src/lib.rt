@@ -1,7 +1,6 @@
 // The machine: runs any version 2 file on lent memory, table and output room.
 ghost use mathlib.Core.Path.{_≡_};
-ghost use Rattle.machine.specs.Running.{runFile};
-ghost use Rattle.machine.specs.Turn.{answered, lentOf};
+ghost use Rattle.machine.specs.Running.{runFile, answered, lentOf};
 use files::Outcome;
 use numbers::Refusal;
 

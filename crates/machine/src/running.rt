@@ -3,7 +3,7 @@ ghost use mathlib.Core.Path.{_≡_};
 ghost use Prim.Native.Nat.{_≤_};
 ghost use lib.ListN.{length};
 ghost use Rattle.heap.specs.Memory.{memorySize, tableSize};
-ghost use Rattle.machine.specs.Turn.{codeOf, Low, AllNarrow, answered, lentOf, runHeld};
+ghost use Rattle.machine.specs.Turn.{codeOf, Low, AllNarrow, runHeld};
 use super::Progress;
 use super::Reason;
 use super::Run;
@@ -11,6 +11,7 @@ use super::Turn;
 use super::place::recorded;
 use super::step::step;
 use files::Line;
+ghost use Rattle.machine.specs.Running.{answered, lentOf};
 
 pub(crate) fn run_code(
     code: [Line; 2000],

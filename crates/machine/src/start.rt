@@ -3,13 +3,13 @@ ghost use mathlib.Core.Path.{_≡_};
 ghost use Prim.Native.Nat.{_≤_};
 ghost use Rattle.opcodes.specs.View.{extent};
 ghost use Rattle.machine.specs.Stop.{refusedRun};
-ghost use Rattle.machine.specs.Turn.{answered, lentOf};
 ghost use Rattle.machine.specs.Start.{paintOne, laidTable, Runnable, runLoaded};
 use super::Reason;
 use super::Run;
 use super::running::run_code;
 use files::Loaded;
 use numbers::Refusal;
+ghost use Rattle.machine.specs.Running.{answered, lentOf};
 
 // The record of a refusal: zeros in its other fields.
 pub(crate) fn refused(why: Refusal) -> Run

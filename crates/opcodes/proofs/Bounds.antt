@@ -8,7 +8,8 @@ use lib.ListN.{length, getD}
 use lib.Dec.{ltb, leb, eqb}
 use borrow.Author.Tests.{eqb-true, leb-true, ltb-true, le-leb, lt-ltb}
 use Rattle.opcodes.specs.declared.Operand.{Operand}
-use Rattle.opcodes.specs.Table.{rowOf, make, fit, made}
+use Rattle.opcodes.specs.Table.{rowOf, make}
+use Rattle.opcodes.specs.Making.{fit, made}
 use Rattle.opcodes.specs.Ranges.{lastOpcode, within, isColor, isKind}
 
 -- a number from low to high

@@ -1,3 +1,5 @@
 pub mod Table
+pub mod Making
 pub mod Ranges
 pub mod View
+pub mod Moved

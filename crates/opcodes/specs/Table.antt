@@ -1,5 +1,5 @@
 -- 01, "Numbers and files": "One table of the opcodes gives for each its operands and their ranges".
-use Prim.Native.Nat.{ℕ, _%_}
+use Prim.Native.Nat.{ℕ}
 use mathlib.Core.List.{List, [], _∷_}
 use lib.ListN.{getD}
 use Rattle.opcodes.specs.declared.Operand.{Operand}
@@ -77,22 +77,6 @@ makers =
 
 abbrev pub make : (op x y z : ℕ) → Instr
 make op = getD makers op (λ x y z. End)
-
--- what the field of an operand of each kind holds of a number: all of one that a file can say there
-abbrev pub fit : Operand → ℕ → ℕ
-fit Operand.None n = 0
-fit Operand.Temporary n = n % 256
-fit Operand.Number n = n
-fit Operand.Global n = n % 65536
-fit Operand.Site n = n % 65536
-fit Operand.Set n = n % 65536
-fit Operand.Offset n = n % 65536
-fit Operand.Target n = n % 65536
-fit Operand.Color n = n % 256
-
--- the same instruction where the operands are any numbers
-abbrev pub made : (op x y z : ℕ) → Instr
-made op x y z = make op (fit (rowOf op .first) x) (fit (rowOf op .second) y) (fit (rowOf op .third) z)
 
 abbrev parts4 : (op x y z : ℕ) → Parts
 parts4 op x y z = record { op = op; x = x; y = y; z = z }

@@ -3,7 +3,8 @@ use super::Instr;
 use super::Parts;
 ghost use mathlib.Core.Path.{_≡_};
 ghost use Prim.Native.Nat.{_%_};
-ghost use Rattle.opcodes.specs.Table.{made, partsOf};
+ghost use Rattle.opcodes.specs.Making.{made};
+ghost use Rattle.opcodes.specs.Table.{partsOf};
 
 // The low eight bits.
 fn low_byte(n: u32) -> u8

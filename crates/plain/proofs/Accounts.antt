@@ -17,13 +17,13 @@ use Rattle.plain.proofs.HeapAlloc.{tied-walk}
 use Rattle.machine.specs.State.{Given, State, startState}
 use Rattle.machine.specs.Colors.{tableRule, firstTable}
 use Rattle.plain.specs.Live.{Live, accountOf, account, liveBytes, freeBytes}
-use Rattle.plain.specs.Plain.{plainPieces}
 use Rattle.plain.specs.Guards.{Guards}
 use Rattle.plain.specs.Demands.{Reaches, recording, HeapAccounts}
 use Rattle.plain.proofs.Good.{Good, good}
 use Rattle.plain.proofs.Bodies.{liveOf, live-account}
 use Rattle.plain.proofs.Holding.{Holds}
 use Rattle.plain.proofs.Through.{Through, through}
+use Rattle.routines.specs.Accepted.{plainPieces}
 
 -- the tie makes the account
 pub holds-account : (p : Program) (color : ℕ → ℕ) (live : List Live) (own : List ℕ × List Live) (m : List ℕ)

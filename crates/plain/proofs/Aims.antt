@@ -4,7 +4,7 @@ use Prim.Native.Nat.{ℕ, zero, suc, _+_, _<_, _≤_}
 use native.Mathlib.Nat.{not-suc-le-zero, le-of-suc-le-suc}
 use native.Mathlib.Omega.{arith}
 use mathlib.Core.Path.{_≡_, _∙_, ap, subst}
-use mathlib.Core.List.{List, [], _∷_, _++_}
+use mathlib.Core.List.{List, [], _∷_, _++_, map}
 use mathlib.Core.Bool.{Bool, true, false}
 use lib.ListN.{length, getD}
 use lib.Dec.{eqb}
@@ -12,7 +12,8 @@ use borrow.Author.Tests.{ne-eqb, le-leb}
 use Rattle.opcodes.specs.declared.Instr.{Instr}
 use Rattle.files.specs.Program.{Program}
 use Rattle.opcodes.specs.View.{one, four, Aim, inGlobal, atTemp, store, view}
-use Rattle.coloring.specs.Unsafe.{safeAim, setOf, unsafeSet, setsIn, unsafeSets}
+use Rattle.coloring.specs.Unsafe.{safeAim, setOf, Unsafe, unsafeSet, setsIn, unsafeSets}
+use Rattle.coloring.proofs.Stores.{unsafe-one}
 use Rattle.coloring.specs.Class.{holds, some, unsafeObject}
 use Rattle.coloring.proofs.Members.{some-here, some-behind, holds-at}
 use Rattle.heap.specs.Memory.{memorySize, inside}
@@ -39,7 +40,7 @@ module _ (p : Program) (good : Good p) (k : ℕ) (inCode : k < length (p .code))
   pub class-unsafe : unsafeObject (unsafeSets p) (getD (setOf p aim s) 0 0) ≡ true
   class-unsafe =
       let set : List ℕ = setOf p aim s in
-      let named : unsafeSet p (store aim b s) ≡ set ∷ [] = rw (unsafe, unsafeSet) in
+      let named : unsafeSet p (store aim b s) ≡ set ∷ [] = ap (map (λ (u : Unsafe). u .set)) (unsafe-one p aim b s unsafe) in
       in-sets p (λ l. holds l (getD set 0 0)) set (p .code) k inCode (ap (unsafeSet p) is ∙ named)
       (holds-at set 0 (not-empty aim (subst (Fine p) is (good .fines k inCode))))
 

@@ -22,25 +22,10 @@ use Rattle.plain.specs.Guards.{Exact}
 use Rattle.machine.specs.Colors.{paintGlobals}
 use Rattle.heap.specs.Heap.{heapStart}
 use Rattle.plain.specs.Live.{Live, owns}
-use Rattle.plain.specs.Plain.{plainPiecesFrom, plainPieces, globalsFrom, globals}
+use Rattle.plain.specs.Plain.{globalsFrom, globals}
 use Rattle.plain.proofs.Owners.{Each, each-map, owns-is, owns-outside}
 use Rattle.plain.proofs.Painting.{Whole, Apart, painted}
-
--- ---- one layout
-
-safe-same : (sets : List (List ℕ)) (color : ℕ → ℕ) → Exact sets color → (g : ℕ) → not (unsafeObject sets g) ≡ eqb (color g) 0
-safe-same sets color exact g = go (unsafeObject sets g) refl
-  where
-    go : (b : Bool) → unsafeObject sets g ≡ b → not (unsafeObject sets g) ≡ eqb (color g) 0
-    go true e = ap not e ∙ sym (ne-eqb (color g) 0 (λ q. omega (arith, exact .low g e)))
-    go false e = ap not e ∙ sym (eq-eqb (color g) 0 (exact .safe g e))
-
-pub pieces-same : (sets : List (List ℕ)) (color : ℕ → ℕ) → Exact sets color → (objects : List Object) (g : ℕ)
-    → piecesOf (tinted color g objects) ≡ plainPiecesFrom sets g objects
-unfolding tinted plainPiecesFrom
-pieces-same sets color exact [] g = refl
-pieces-same sets color exact (o ∷ os) g =
-    ap₂ (λ (s : Bool) (l : List Piece). record { kind = o .kind; size = o .size; safe = s } ∷ l) (sym (safe-same sets color exact g)) (pieces-same sets color exact os (g + 1))
+use Rattle.routines.specs.Accepted.{plainPiecesFrom, plainPieces}
 
 -- ---- the pieces of a routine are its objects
 

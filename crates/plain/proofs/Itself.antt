@@ -1,24 +1,27 @@
 -- 01's own colors are exact, so version 2 of an accepted routine guards it.
-use Prim.Native.Nat.{ℕ, _≤_, _<_}
+use Prim.Native.Nat.{ℕ, _<_}
 use native.Mathlib.Omega.{arith}
 use mathlib.Core.Path.{_≡_, refl, sym, _∙_, ap}
-use mathlib.Core.List.{[], _∷_}
-use mathlib.Core.Bool.{Bool, true, false}
+use mathlib.Core.List.{[], _∷_, map}
 use lib.ListN.{length}
 use Rattle.files.specs.Program.{Program}
-use Rattle.files.specs.Writing.{goodProgram}
-use Rattle.opcodes.specs.View.{Aim, View, act, jump, jumpIf, store, check, view, checkInstr}
-use Rattle.coloring.specs.Unsafe.{safeAim, setOf, unsafeSets}
-use Rattle.coloring.specs.Colored.{colorIn, classCount}
+use Rattle.opcodes.specs.declared.Instr.{Instr}
+use Rattle.opcodes.specs.View.{view, checkInstr}
+use Rattle.coloring.specs.Unsafe.{Unsafe, unsafeIn, unsafeSets}
+use Rattle.coloring.specs.Color.{colorOfSet}
+use Rattle.coloring.specs.Colored.{colorIn}
+use Rattle.coloring.proofs.Stores.{unsafeStore, Stores, stores}
 use Rattle.coloring.proofs.Colors.{color-apart, color-together}
-use Rattle.instrumenter.specs.Instrumented.{colorOfSet, checkOf, spanOf, newPlace, instrumented}
+use Rattle.routines.specs.Accepted.{Accepted}
+use Rattle.instrumenter.specs.Instrumented.{spanOf, newPlace, instrumented}
 use Rattle.instrumenter.proofs.FileColors.{FileColors, file-colors}
 use Rattle.instrumenter.proofs.Guarded.{place-past, Alone, alone, Checked, checked}
-use Rattle.plain.specs.Guards.{Exact, instrAt, mustCheck, Stands, Guards}
+use Rattle.plain.specs.Guards.{Exact, instrAt, Stands, Guards}
+use Rattle.plain.specs.Demands.{GuardsItself}
 
-pub exact-colors : (p : Program) → goodProgram 1 p ≡ true → classCount p ≤ 254 → Exact (unsafeSets p) (colorIn p)
-exact-colors p good few =
-    let colors : FileColors (unsafeSets p) (colorIn p) = file-colors p good few in
+exact-colors : (p : Program) → Accepted p → Exact (unsafeSets p) (colorIn p)
+exact-colors p accepted =
+    let colors : FileColors (unsafeSets p) (colorIn p) = file-colors p (accepted .good) (accepted .classes) in
     record {
       safe = colors .safe;
       low = colors .low;
@@ -28,39 +31,21 @@ exact-colors p good few =
     }
 
 module _ (p : Program) (color : ℕ → ℕ) where
-  abbrev Standing : (k : ℕ) → Type 0
-  Standing k = Stands p (instrumented color p) color (newPlace color p) (newPlace color p) k
+  -- the check of an unsafe instruction
+  abbrev checkFor : Unsafe → Instr
+  checkFor u = checkInstr (u .aim) (colorOfSet color (u .set))
 
-  module _ (k : ℕ) (inside : k < length (p .code)) where
-    stands-alone : checkOf color p (view (instrAt p k)) ≡ [] → mustCheck p (view (instrAt p k)) ≡ false → Standing k
-    unfolding instrumented
-    stands-alone none must =
-        let a : Alone color p k inside = alone color p k inside none in
-        Stands.alone must (a .inside₂) (a .here) (a .follows)
-
-    stands-behind : (aim : Aim) (b s : ℕ) → view (instrAt p k) ≡ store aim b s → safeAim p aim ≡ false → Standing k
-    unfolding instrumented
-    stands-behind aim b s e unsafe =
-        let c : checkOf color p (store aim b s) ≡ checkInstr aim (colorOfSet color (setOf p aim s)) ∷ [] = rw (unsafe, checkOf) in
-        let a : Checked color p k inside (checkInstr aim (colorOfSet color (setOf p aim s))) = checked color p k inside _ (ap (checkOf color p) e ∙ c) in
-        Stands.behind aim b s e unsafe (a .inside₂) (a .here) (a .behind) (omega (arith, a .follows))
-
-    stands : Standing k
-    stands = by (view (instrAt p k)) refl
-      where
-        stored : (aim : Aim) (b s : ℕ) → view (instrAt p k) ≡ store aim b s → (t : Bool) → safeAim p aim ≡ t → Standing k
-        stored aim b s e true safe =
-            let none : checkOf color p (store aim b s) ≡ [] = rw (safe, checkOf) in
-            let must : mustCheck p (store aim b s) ≡ false = rw (safe, mustCheck) in
-            stands-alone (ap (checkOf color p) e ∙ none) (ap (mustCheck p) e ∙ must)
-        stored aim b s e false unsafe = stands-behind aim b s e unsafe
-
-        by : (v : View) → view (instrAt p k) ≡ v → Standing k
-        by (act x) e = stands-alone (ap (checkOf color p) e) (ap (mustCheck p) e)
-        by (jump t) e = stands-alone (ap (checkOf color p) e) (ap (mustCheck p) e)
-        by (jumpIf a t) e = stands-alone (ap (checkOf color p) e) (ap (mustCheck p) e)
-        by (store aim b s) e = stored aim b s e (safeAim p aim) refl
-        by (check aim c) e = stands-alone (ap (checkOf color p) e) (ap (mustCheck p) e)
+  stands : (k : ℕ) → k < length (p .code) → Stands p (instrumented color p) color (newPlace color p) (newPlace color p) k
+  unfolding instrumented
+  stands k inside = go (stores p (view (instrAt p k)))
+    where
+      go : Stores p (view (instrAt p k)) → Stands p (instrumented color p) color (newPlace color p) (newPlace color p) k
+      go (Stores.nothing none) =
+          let a : Alone color p k inside = alone color p k inside (ap (map checkFor) none) in
+          Stands.alone none (a .inside₂) (a .here) (a .follows)
+      go (Stores.unsafe aim b s is unsafe one) =
+          let a : Checked color p k inside (checkFor (unsafeStore p aim s)) = checked color p k inside _ (ap (map checkFor) one) in
+          Stands.behind (unsafeStore p aim s) one (a .inside₂) (a .here) (a .behind) (omega (arith, a .follows))
 
   -- version 2 under any exact colors
   pub guards-exactly : Exact (unsafeSets p) color → Guards p (instrumented color p)
@@ -78,6 +63,5 @@ module _ (p : Program) (color : ℕ → ℕ) where
         jumps = λ t. omega arith;
       }
 
--- for every routine that is accepted: what a file says, with at most 254 classes
-pub guards-itself : (p : Program) → goodProgram 1 p ≡ true → classCount p ≤ 254 → Guards p (instrumented (colorIn p) p)
-guards-itself p good few = guards-exactly p (colorIn p) (exact-colors p good few)
+pub guards-itself : GuardsItself
+guards-itself p accepted = guards-exactly p (colorIn p) (exact-colors p accepted)

@@ -48,3 +48,6 @@ pub mod Accounts
 pub mod Untouched
 pub mod Exactly
 pub mod Itself
+pub mod Classes
+pub mod Halting
+pub mod Answering

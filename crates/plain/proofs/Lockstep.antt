@@ -18,7 +18,7 @@ use native.Mathlib.Nat.{not-suc-le-zero}
 use native.Mathlib.Omega.{arith}
 use mathlib.Core.Path.{_≡_, refl, sym, _∙_, ap, subst}
 use mathlib.Core.Logic.{_⊎_, inl, inr}
-use mathlib.Core.List.{List}
+use mathlib.Core.List.{List, []}
 use mathlib.Core.Bool.{Bool, true, false, false≢true}
 use lib.ListN.{length, getD}
 use lib.Dec.{ltb, eqb}
@@ -26,7 +26,8 @@ use borrow.Author.Tests.{ltb-true, ltb-false, leb-true, eqb-true}
 use Rattle.opcodes.specs.declared.Instr.{Instr}
 use Rattle.files.specs.Program.{Program}
 use Rattle.opcodes.specs.View.{Aim, inGlobal, atTemp, Act, View, act, jump, jumpIf, store, check, view, extent}
-use Rattle.coloring.specs.Unsafe.{safeAim, setOf, sizeOf}
+use Rattle.coloring.specs.Unsafe.{safeAim, setOf, Unsafe, unsafeIn, sizeOf}
+use Rattle.coloring.proofs.Stores.{unsafeStore, safe-none, unsafe-one}
 use Rattle.layout.specs.Layout.{startOf, fits}
 use Rattle.instrumenter.proofs.Guarded.{movedView, view-moved, view-check}
 use Rattle.heap.specs.Memory.{memorySize, colorAt, bytesOf, put, everyByte, inside}
@@ -39,14 +40,15 @@ use Rattle.heap.specs.Memory.{hasColor}
 use Rattle.machine.proofs.Steps.{step-past, step-limit, step-goes}
 use Rattle.machine.proofs.Effects.{Calm, image, Follows, act-follows}
 use Rattle.plain.specs.Live.{Live}
-use Rattle.plain.specs.Plain.{plainPieces, plainAllows, inClass}
-use Rattle.plain.specs.Guards.{Guards, mustCheck}
+use Rattle.plain.specs.Plain.{keepsTo, inClass}
+use Rattle.plain.specs.Guards.{Guards}
 use Rattle.plain.proofs.Good.{Fine, Good}
 use Rattle.plain.proofs.Aims.{class-unsafe, some-bytes, inside-is}
 use Rattle.plain.proofs.Globals.{global-end, globals-whole}
 use Rattle.plain.proofs.Holding.{Holds, rule-same, holds-put}
 use Rattle.plain.proofs.Rules.{rule₁, rule₂, start-same, alike}
 use Rattle.plain.proofs.Standing.{Alone, alone, Checked, checked, place-inside}
+use Rattle.routines.specs.Accepted.{plainPieces}
 
 has-color : (table : List ℕ) (c a : ℕ) → hasColor table c a ≡ true → (a < memorySize) × (colorAt table a ≡ c)
 has-color table c a = go (ltb a memorySize) refl
@@ -170,9 +172,9 @@ module _ (p q : Program) (guards : Guards p q) (given : Given) where
     step₂ at₂ w inside e = step-goes (rule₂ q) given (image s at₂ own) inside inLimit ∙ ap (perform (rule₂ q) given (image s at₂ own)) e
 
     -- an instruction with no check, whose effects follow one another
-    module _ (v : View) (e : view here ≡ v) (none : mustCheck p v ≡ false) where
+    module _ (v : View) (e : view here ≡ v) (none : unsafeIn p v ≡ []) where
       a : Alone p q guards (s .at) inCode
-      a = alone p q guards (s .at) inCode (ap (mustCheck p) e ∙ none)
+      a = alone p q guards (s .at) inCode (ap (unsafeIn p) e ∙ none)
 
       at-new : view (getD (q .code) (place (s .at)) Instr.End) ≡ movedView target v
       at-new = ap view (a .here) ∙ view-moved target here ∙ ap (movedView target) e
@@ -234,8 +236,8 @@ module _ (p q : Program) (guards : Guards p q) (given : Given) where
       lock-safe : safeAim p aim ≡ true → Lock s own
       lock-safe safe =
           let low : address + widthOf aim ≤ heapStart = safe-low aim (subst (Fine p) e (good .fines (s .at) inCode)) safe in
-          let none : mustCheck p (store aim b s₀) ≡ false = rw (safe, mustCheck) in
-          let allowed : lets (rule₁ p) given s (store aim b s₀) ≡ true = rw (safe, plainAllows) in
+          let none : unsafeIn p (store aim b s₀) ≡ [] = safe-none p aim b s₀ safe in
+          let allowed : lets (rule₁ p) given s (store aim b s₀) ≡ true = ap (λ (us : List Unsafe). keepsTo p (s .own) us address (widthOf aim)) none in
           Lock.goes
           (stores (place (s .at)) (a (store aim b s₀) e none .inside₂) (at-new (store aim b s₀) e none) (sym (a (store aim b s₀) e none .follows))
           allowed (inside-is address (widthOf aim) (some-bytes aim) (omega arith))
@@ -249,11 +251,11 @@ module _ (p q : Program) (guards : Guards p q) (given : Given) where
         abbrev its : ℕ
         its = color (getD set 0 0)
 
-        guard : Checked p q guards (s .at) inCode aim s₀
-        guard = checked p q guards (s .at) inCode aim b s₀ e unsafe
+        guard : Checked p q guards (s .at) inCode (unsafeStore p aim s₀)
+        guard = checked p q guards (s .at) inCode (unsafeStore p aim s₀) (ap (unsafeIn p) e ∙ unsafe-one p aim b s₀ unsafe)
 
         lets₁ : lets (rule₁ p) given s (store aim b s₀) ≡ everyByte (widthOf aim) (inClass p (s .own) set) address
-        lets₁ = rw (unsafe, plainAllows)
+        lets₁ = ap (λ (us : List Unsafe). keepsTo p (s .own) us address (widthOf aim)) (unsafe-one p aim b s₀ unsafe)
 
         -- the check asks what the plain rule asks
         lets₂ : lets (rule₂ q) given (placed s own) (check aim its) ≡ everyByte (widthOf aim) (inClass p (s .own) set) address

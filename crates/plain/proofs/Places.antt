@@ -14,11 +14,12 @@ use Rattle.opcodes.specs.declared.Instr.{Instr}
 use Rattle.files.specs.Program.{Program}
 use Rattle.opcodes.specs.View.{View, act, jump, jumpIf, store, check, view}
 use Rattle.coloring.specs.Unsafe.{setOf}
-use Rattle.instrumenter.specs.Instrumented.{colorOfSet, moved}
 use Rattle.instrumenter.proofs.Guarded.{movedView, view-moved, view-check}
 use Rattle.machine.specs.Stop.{counts, placesIn, placeIn}
 use Rattle.machine.proofs.Places.{places-more}
 use Rattle.plain.specs.Guards.{instrAt, Stands, Guards}
+use Rattle.coloring.specs.Color.{colorOfSet}
+use Rattle.opcodes.specs.Moved.{moved}
 
 -- the place behind an instruction
 place-behind : (code : List Instr) (n : ℕ) → n < length code → placeIn code (n + 1) ≡ placeIn code n + counts (view (getD code n Instr.End))
@@ -51,10 +52,10 @@ module _ (p q : Program) (guards : Guards p q) where
       ∙ place-behind (q .code) (place k) inside
       ∙ ap (λ i. placeIn (q .code) (place k) + counts (view i)) is
       ∙ ap (λ n. placeIn (q .code) (place k) + n) (moved-count (guards .target) (instrAt p k))
-  stands-count k (Stands.behind aim b s e unsafe inside guard is next) =
+  stands-count k (Stands.behind u e inside guard is next) =
       let two : place (k + 1) ≡ place k + 1 + 1 = omega (arith, next) in
-      let its : ℕ = colorOfSet (guards .color) (setOf p aim s) in
-      let nothing : counts (view (instrAt q (place k))) ≡ 0 = ap (λ i. counts (view i)) guard ∙ ap counts (view-check aim its) in
+      let its : ℕ = colorOfSet (guards .color) (u .set) in
+      let nothing : counts (view (instrAt q (place k))) ≡ 0 = ap (λ i. counts (view i)) guard ∙ ap counts (view-check (u .aim) its) in
       let copy : counts (view (instrAt q (place k + 1))) ≡ counts (view (instrAt p k)) = ap (λ i. counts (view i)) is ∙ moved-count (guards .target) (instrAt p k) in
       ap (placeIn (q .code)) two
       ∙ omega (arith, place-behind (q .code) (place k + 1) inside, place-behind (q .code) (place k) (omega arith), nothing, copy)

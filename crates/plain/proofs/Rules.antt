@@ -20,13 +20,15 @@ use Rattle.machine.specs.State.{Rule}
 use Rattle.machine.specs.Colors.{tableAllows, colorOfObject, tableRule}
 use Rattle.machine.proofs.Effects.{Calm, Alike}
 use Rattle.plain.specs.Live.{Live, liveMaking, liveFreeing}
-use Rattle.plain.specs.Plain.{plainPieces, plainAllows, plainRule, globals}
+use Rattle.plain.specs.Plain.{plainAllows, plainRule, globals}
 use Rattle.plain.specs.Demands.{recording}
 use Rattle.plain.proofs.Good.{Good}
 use Rattle.plain.proofs.Owners.{Each}
 use Rattle.plain.proofs.Painting.{Whole}
-use Rattle.plain.proofs.Globals.{pieces-same, globals-whole}
+use Rattle.routines.proofs.Layouts.{pieces-same}
+use Rattle.plain.proofs.Globals.{globals-whole}
 use Rattle.plain.proofs.Holding.{Holds, holds-made, holds-freed}
+use Rattle.routines.specs.Accepted.{plainPieces}
 
 abbrev pub rule₁ : Program → Rule (List Live)
 rule₁ p = record { code = p .code; start = startOf (plainPieces p); allows = plainAllows p; making = liveMaking; freeing = liveFreeing }
@@ -55,7 +57,7 @@ module _ (p q : Program) (guards : Guards p q) where
   color = guards .color
 
   pub start-same : startOf (piecesOf (q .objects)) ≡ startOf (plainPieces p)
-  start-same = ap (λ (os : List Object). startOf (piecesOf os)) (guards .objects) ∙ ap startOf (pieces-same (unsafeSets p) color (guards .exact) (p .objects) 0)
+  start-same = ap (λ (os : List Object). startOf (piecesOf os)) (guards .objects) ∙ ap startOf (pieces-same (unsafeSets p) color (guards .exact .safe) (guards .exact .low) (p .objects) 0)
 
   site-color : (g : ℕ) → g < length (p .objects) → colorOfObject (q .objects) g ≡ color g
   site-color g site =

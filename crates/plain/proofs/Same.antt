@@ -3,6 +3,7 @@
 -- tied state and stops there too, for the same reason; and a run has one end (Stopping). What the two
 -- records hold is then the same, the place by what a place counts (Places).
 use Prim.Native.Nat.{ℕ}
+use native.Mathlib.Omega.{arith}
 use mathlib.Core.Path.{_≡_, sym, _∙_, ap, subst}
 use mathlib.Core.List.{List, []}
 use mathlib.Core.Bool.{true}
@@ -10,6 +11,7 @@ use lib.ListN.{length}
 use Rattle.files.specs.Program.{Program}
 use Rattle.layout.specs.Layout.{fits}
 use Rattle.machine.specs.declared.Reason.{Reason}
+use Rattle.machine.specs.Stop.{numberOf}
 use Rattle.machine.specs.State.{Given, State, startState}
 use Rattle.machine.specs.Step.{stop, next, step}
 use Rattle.machine.specs.Runs.{stopped, runs}
@@ -17,7 +19,7 @@ use Rattle.machine.specs.Colors.{tableRule, firstTable}
 use Rattle.machine.proofs.Steps.{stop-not-next, next-same, stop-same}
 use Rattle.machine.proofs.Effects.{Calm, image}
 use Rattle.plain.specs.Live.{Live}
-use Rattle.plain.specs.Plain.{plainPieces, plainRule, plainRun}
+use Rattle.plain.specs.Plain.{plainRule, plainRun}
 use Rattle.plain.specs.Guards.{Guards}
 use Rattle.plain.specs.Demands.{Reaches, Stops, Agree, SameRun, NeverOutside}
 use Rattle.plain.proofs.Stopping.{run-stops, run-is}
@@ -28,6 +30,7 @@ use Rattle.plain.proofs.Start.{holds-start}
 use Rattle.plain.proofs.Rules.{rule₁, rule₂}
 use Rattle.plain.proofs.Lockstep.{placed, Lock, lock}
 use Rattle.plain.proofs.Places.{place-same}
+use Rattle.routines.specs.Accepted.{plainPieces}
 
 module _ (p q : Program) (guards : Guards p q) (given : Given) where
   -- where the table's run starts
@@ -123,9 +126,21 @@ module _ (p q : Program) (guards : Guards p q) (given : Given) (good : Good p) (
 pub same-run : SameRun
 same-run p q given accepted guards = agree p q guards given (good p (accepted .good)) (accepted .fitting)
 
--- "Instrumented code never meets 35 or 38"
+-- a reason that instrumented code stops for has another number than these
+calm-number : (x : Reason) → Calm x → (numberOf x ≡ 35 → ⊥) × (numberOf x ≡ 38 → ⊥)
+calm-number Reason.Finished c = ((λ e. omega arith), (λ e. omega arith))
+calm-number Reason.PastEnd c = ((λ e. omega arith), (λ e. omega arith))
+calm-number Reason.LimitUsed c = ((λ e. omega arith), (λ e. omega arith))
+calm-number Reason.NoInput c = ((λ e. omega arith), (λ e. omega arith))
+calm-number Reason.NoRoom c = ((λ e. omega arith), (λ e. omega arith))
+calm-number Reason.ReadOutside c = ((λ e. omega arith), (λ e. omega arith))
+calm-number Reason.StoreOutside c = absurd c
+calm-number Reason.Forbidden c = ((λ e. omega arith), (λ e. omega arith))
+calm-number Reason.BadFree c = ((λ e. omega arith), (λ e. omega arith))
+calm-number Reason.Unsound c = absurd c
+calm-number (Reason.Refused q) c = absurd c
+
 pub never-outside : NeverOutside
-never-outside p q given accepted guards = ((λ e. subst Calm e calm), (λ e. subst Calm e calm))
-  where
-    calm : Calm (runs (tableRule q) given (firstTable q) .run .reason)
-    calm = calm-end p q guards given (good p (accepted .good)) (accepted .fitting)
+never-outside p q given accepted guards =
+    calm-number (runs (tableRule q) given (firstTable q) .run .reason)
+    (calm-end p q guards given (good p (accepted .good)) (accepted .fitting))

@@ -20,12 +20,14 @@ use Rattle.plain.proofs.HeapAlloc.{Tied}
 use Rattle.machine.specs.State.{blankMemory}
 use Rattle.machine.specs.Colors.{paintGlobals, blankTable, firstTable}
 use Rattle.plain.specs.Live.{owns}
-use Rattle.plain.specs.Plain.{plainPieces, globals}
+use Rattle.plain.specs.Plain.{globals}
 use Rattle.plain.proofs.Owners.{Each, each-map, owns-outside, Tells}
 use Rattle.plain.proofs.Bodies.{liveOf}
 use Rattle.plain.proofs.Painting.{Whole, painted, length-painted, painted-outside, painted-owned}
-use Rattle.plain.proofs.Globals.{pieces-same, paint-globals, globals-whole, globals-share-none}
+use Rattle.routines.proofs.Layouts.{pieces-same}
+use Rattle.plain.proofs.Globals.{paint-globals, globals-whole, globals-share-none}
 use Rattle.plain.proofs.Holding.{Holds}
+use Rattle.routines.specs.Accepted.{plainPieces}
 
 -- ---- blank lists
 
@@ -61,7 +63,7 @@ module _ (p q : Program) (guards : Guards p q) (fitting : fits (plainPieces p) �
   first-is =
       ap (λ t. paint (paint t heapStart 8 1) endSlot 8 1)
       (ap (λ (os : List Object). paintGlobals (piecesOf os) 0 os blankTable) (guards .objects)
-      ∙ ap (λ pieces. paintGlobals pieces 0 (tinted color 0 (p .objects)) blankTable) (pieces-same (unsafeSets p) color (guards .exact) (p .objects) 0)
+      ∙ ap (λ pieces. paintGlobals pieces 0 (tinted color 0 (p .objects)) blankTable) (pieces-same (unsafeSets p) color (guards .exact .safe) (guards .exact .low) (p .objects) 0)
       ∙ paint-globals color (plainPieces p) (p .objects) 0 blankTable)
 
   slots₀ : length t₀ ≡ tableSize

@@ -26,7 +26,7 @@ use Rattle.machine.specs.Colors.{tableRule, firstTable}
 use Rattle.machine.proofs.Steps.{stop-not-next, next-same, stop-same}
 use Rattle.machine.proofs.Turns.{turn-on, turn-stop}
 use Rattle.plain.specs.Plain.{plainRule}
-use Rattle.plain.specs.Demands.{Reaches, Stops, EveryRunStops}
+use Rattle.plain.specs.Demands.{Reaches, Stops, EveryRunStops, StopsOnce}
 
 module _ {S : Type 0} (rule : Rule S) (given : Given) where
   -- ---- one turn
@@ -189,9 +189,9 @@ module _ {S : Type 0} (rule : Rule S) (given : Given) where
       let one : (end .state ≡ _) × (end .reason ≡ _) = one-end (end .reached) (end .stopping) way e in
       end .outcome ∙ ap₂ (stopped rule given) (one .0) (one .1)
 
-  -- two ends of one run are one
-  pub stops-once : (own : S) (a b : Stops rule given own) → (a .state ≡ b .state) × (a .reason ≡ b .reason)
-  stops-once own a b = one-end (a .reached) (a .stopping) (b .reached) (b .stopping)
+-- two ends of one run are one
+pub stops-once : StopsOnce
+stops-once S rule given own a b = one-end rule given (a .reached) (a .stopping) (b .reached) (b .stopping)
 
 pub every-run-stops : EveryRunStops
 every-run-stops p given = (run-stops (tableRule p) given (firstTable p), run-stops (plainRule p) given [])

@@ -17,13 +17,13 @@ use Rattle.machine.proofs.Effects.{image}
 use Rattle.plain.specs.Live.{Live}
 use Rattle.plain.specs.Guards.{Guards}
 use Rattle.plain.specs.Demands.{Reaches}
-use Rattle.plain.specs.Plain.{plainPieces}
 use Rattle.plain.proofs.Good.{Good}
 use Rattle.plain.proofs.Holding.{Holds}
 use Rattle.plain.proofs.Start.{holds-start}
 use Rattle.plain.proofs.Rules.{rule₂}
 use Rattle.plain.proofs.Lockstep.{placed, Colored, Goes, Lock, lock}
 use Rattle.plain.proofs.Same.{start₂}
+use Rattle.routines.specs.Accepted.{plainPieces}
 
 module _ (p q : Program) (guards : Guards p q) (given : Given) (good : Good p) (fitting : fits (plainPieces p) ≡ true) where
   pub data Through (r : State (List ℕ × List Live)) : Type 0 where

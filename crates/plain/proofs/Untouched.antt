@@ -5,7 +5,7 @@
 use Prim.Native.Nat.{ℕ, _+_, _<_, _≤_}
 use native.Mathlib.Omega.{arith}
 use mathlib.Core.Path.{_≡_, refl, sym, _∙_, ap, subst}
-use mathlib.Core.List.{List, [], _++_}
+use mathlib.Core.List.{List, [], _∷_, _++_}
 use mathlib.Core.Bool.{Bool, true, false, false≢true}
 use lib.ListN.{length, getD}
 use lib.Dec.{ltb}
@@ -13,7 +13,8 @@ use borrow.Author.Tests.{ltb-true, ltb-false, leb-true}
 use Rattle.opcodes.specs.declared.Instr.{Instr}
 use Rattle.files.specs.Program.{Program}
 use Rattle.opcodes.specs.View.{Aim, inGlobal, atTemp, View, act, jump, jumpIf, store, check, view, extent}
-use Rattle.coloring.specs.Unsafe.{safeAim, setOf, unsafeSets, sizeOf}
+use Rattle.coloring.specs.Unsafe.{safeAim, setOf, unsafeIn, unsafeSets, sizeOf}
+use Rattle.coloring.proofs.Stores.{unsafeStore, safe-none, unsafe-one}
 use Rattle.coloring.specs.Class.{unsafeObject}
 use Rattle.layout.specs.Layout.{startOf, fits}
 use Rattle.instrumenter.proofs.Guarded.{movedView, view-moved, view-check}
@@ -24,10 +25,10 @@ use Rattle.machine.specs.Step.{next, widthOf, step}
 use Rattle.machine.specs.Colors.{tableRule, firstTable}
 use Rattle.machine.proofs.Steps.{goes-in-code, store-writes}
 use Rattle.machine.proofs.Effects.{image}
-use Rattle.plain.specs.Live.{Live, owns}
-use Rattle.plain.specs.Plain.{plainPieces, globals}
-use Rattle.plain.specs.Guards.{Guards, mustCheck}
-use Rattle.plain.specs.Demands.{Reaches, Accepted, recording}
+use Rattle.plain.specs.Live.{Live, owns, someLive}
+use Rattle.plain.specs.Plain.{globals}
+use Rattle.plain.specs.Guards.{Guards}
+use Rattle.plain.specs.Demands.{UnownedKept, HeadersKept}
 use Rattle.plain.proofs.Good.{Fine, Good, good}
 use Rattle.plain.proofs.Owners.{Each, each-left, each-map, owns-inside}
 use Rattle.plain.proofs.Globals.{global-of, globals-whole}
@@ -36,10 +37,21 @@ use Rattle.plain.proofs.Rules.{rule₂, start-same}
 use Rattle.plain.proofs.Standing.{alone, checked}
 use Rattle.plain.proofs.Lockstep.{placed, Colored}
 use Rattle.plain.proofs.Through.{Through, through}
+use Rattle.routines.specs.Accepted.{plainPieces, Accepted}
 
 -- no live object of a list owns a byte
-abbrev pub Unowned : List Live → (a : ℕ) → Type 0
+abbrev Unowned : List Live → (a : ℕ) → Type 0
 Unowned os a = Each (λ o. owns o a ≡ false) os
+
+unowned : (os : List Live) (a : ℕ) → someLive (λ o. owns o a) os ≡ false → Unowned os a
+unfolding someLive
+unowned [] a e = tt
+unowned (o ∷ os) a e = go (unowned os a) (owns o a) refl e
+  where
+    go : (someLive (λ o. owns o a) os ≡ false → Unowned os a)
+        → (b : Bool) → owns o a ≡ b → elim b as (λ _. Bool) [ true ↦ true | false ↦ someLive (λ o. owns o a) os ] ≡ false → Unowned (o ∷ os) a
+    go rest true s e = absurd (false≢true (sym e))
+    go rest false s e = (s, rest e)
 
 module _ (p q : Program) (guards : Guards p q) (given : Given) (good : Good p) (fitting : fits (plainPieces p) ≡ true) where
   abbrev color : ℕ → ℕ
@@ -94,16 +106,16 @@ module _ (p q : Program) (guards : Guards p q) (given : Given) (good : Good p) (
     safe-owned (atTemp c w) b t f safe a none x y = false≢true safe
 
     -- what stands at the new place of an instruction
-    new-alone : (inCode : s .at < length (p .code)) (v : View) → view (getD (p .code) (s .at) Instr.End) ≡ v → mustCheck p v ≡ false
+    new-alone : (inCode : s .at < length (p .code)) (v : View) → view (getD (p .code) (s .at) Instr.End) ≡ v → unsafeIn p v ≡ []
         → view (getD (q .code) (place (s .at)) Instr.End) ≡ movedView (guards .target) v
     new-alone inCode v i none =
-        ap view (alone p q guards (s .at) inCode (ap (mustCheck p) i ∙ none) .here)
+        ap view (alone p q guards (s .at) inCode (ap (unsafeIn p) i ∙ none) .here)
         ∙ view-moved (guards .target) (getD (p .code) (s .at) Instr.End) ∙ ap (movedView (guards .target)) i
 
     pub new-check : (inCode : s .at < length (p .code)) (aim : Aim) (b t : ℕ) → view (getD (p .code) (s .at) Instr.End) ≡ store aim b t → safeAim p aim ≡ false
         → view (getD (q .code) (place (s .at)) Instr.End) ≡ check aim (color (getD (setOf p aim t) 0 0))
     new-check inCode aim b t i unsafe =
-        ap view (checked p q guards (s .at) inCode aim b t i unsafe .here)
+        ap view (checked p q guards (s .at) inCode (unsafeStore p aim t) (ap (unsafeIn p) i ∙ unsafe-one p aim b t unsafe) .here)
         ∙ view-check aim (color (getD (setOf p aim t) 0 0))
 
     leaves-tied : Leaves (placed p q guards given s own)
@@ -112,7 +124,7 @@ module _ (p q : Program) (guards : Guards p q) (given : Given) (good : Good p) (
         stored : (inCode : s .at < length (p .code)) (x : Aim) (y z : ℕ) → view (getD (p .code) (s .at) Instr.End) ≡ store x y z → Fine p (store x y z)
             → (c : Bool) → safeAim p x ≡ c → getD (after .memory) a 0 ≡ getD (s .memory) a 0
         stored inCode x y z i f true safe =
-            let none₁ : mustCheck p (store x y z) ≡ false = rw (safe, mustCheck) in
+            let none₁ : unsafeIn p (store x y z) ≡ [] = safe-none p x y z safe in
             let at : _ ≡ store x y 0 = new-alone inCode (store x y z) i none₁ in
             let same : x ≡ aim = cc in
             writes-owned (place (s .at)) after aim b t is e a
@@ -170,25 +182,14 @@ module _ (p q : Program) (guards : Guards p q) (given : Given) (good : Good p) (
 
 -- ---- the same of any program that guards an accepted one
 
--- a store from a state that the run comes through: what stays of memory
-abbrev pub StoreKeeps : (p q : Program) (given : Given) (r : State (List ℕ × List Live)) (a : ℕ) → Type 0
-StoreKeeps p q given r a =
-    (after : State (List ℕ × List Live)) (aim : Aim) (b s : ℕ) → view (getD (q .code) (r .at) Instr.End) ≡ store aim b s
-    → step (recording (tableRule q)) given r ≡ next after → getD (after .memory) a 0 ≡ getD (r .memory) a 0
-
-abbrev Reached : (q : Program) (given : Given) → State (List ℕ × List Live) → Type 0
-Reached q given r = Reaches (recording (tableRule q)) given (startState (firstTable q, [])) r
-
-pub unowned-kept : (p q : Program) (given : Given) → Accepted p → Guards p q → (r : State (List ℕ × List Live)) → Reached q given r
-    → (a : ℕ) → Unowned (globals p ++ r .own .1) a → StoreKeeps p q given r a
+pub unowned-kept : UnownedKept
 unfolding tableRule
 unowned-kept p q given accepted guards r way a none after aim b s is e =
     let good : Good p = good p (accepted .good) in
-    leaves p q guards given good (accepted .fitting) r (through p q guards given good (accepted .fitting) way) after aim b s is e a none
+    leaves p q guards given good (accepted .fitting) r (through p q guards given good (accepted .fitting) way) after aim b s is e a
+    (unowned (globals p ++ r .own .1) a none)
 
--- "Color 1 is for heap headers": no store of instrumented code changes a byte of color 1
-pub headers-kept : (p q : Program) (given : Given) → Accepted p → Guards p q → (r : State (List ℕ × List Live)) → Reached q given r
-    → (a : ℕ) → a < memorySize → colorAt (r .own .0) a ≡ 1 → StoreKeeps p q given r a
+pub headers-kept : HeadersKept
 unfolding tableRule
 headers-kept p q given accepted guards r way a inside one after aim b s is e =
     let good : Good p = good p (accepted .good) in

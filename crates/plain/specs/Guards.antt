@@ -2,16 +2,17 @@
 -- whoever wrote it, with any color numbers that keep the classes apart.
 use Prim.Native.Nat.{ℕ, _+_, _≤_, _<_}
 use mathlib.Core.Path.{_≡_}
-use mathlib.Core.List.{List}
-use mathlib.Core.Bool.{Bool, true, false, not}
+use mathlib.Core.List.{List, [], _∷_}
+use mathlib.Core.Bool.{true, false}
 use lib.ListN.{length, getD}
 use Rattle.opcodes.specs.declared.Instr.{Instr}
 use Rattle.files.specs.Program.{Program}
-use Rattle.opcodes.specs.View.{Aim, View, act, jump, jumpIf, store, check, view, checkInstr}
-use Rattle.coloring.specs.Unsafe.{safeAim, setOf, unsafeSets}
+use Rattle.opcodes.specs.View.{view, checkInstr}
+use Rattle.opcodes.specs.Moved.{moved}
+use Rattle.coloring.specs.Unsafe.{Unsafe, unsafeIn, unsafeSets}
 use Rattle.coloring.specs.Class.{unsafeObject, sameClass}
+use Rattle.coloring.specs.Color.{colorOfSet}
 use Rattle.coloring.specs.Colored.{tinted}
-use Rattle.instrumenter.specs.Instrumented.{colorOfSet, moved}
 
 -- colors that give 0 exactly to the safe objects, and two unsafe objects one number exactly when they
 -- are of one class; numbers from 2 up to 255, as a file has them
@@ -27,25 +28,17 @@ pub record Exact (sets : List (List ℕ)) (color : ℕ → ℕ) : Type 0 where
 abbrev pub instrAt : Program → (k : ℕ) → Instr
 instrAt p k = getD (p .code) k Instr.End
 
--- "each unsafe one": whether an instruction has to have a check
-abbrev pub mustCheck : Program → View → Bool
-mustCheck p (act x) = false
-mustCheck p (jump t) = false
-mustCheck p (jumpIf a t) = false
-mustCheck p (store aim b s) = not (safeAim p aim)
-mustCheck p (check aim c) = false
-
 -- instruction k of the routine, which begins at its place in version 2: alone, or "directly preceded by
 -- its check with its class's color"; what follows it begins directly behind
 pub data Stands (p q : Program) (color place target : ℕ → ℕ) (k : ℕ) : Type 0 where
-  alone : mustCheck p (view (instrAt p k)) ≡ false
+  alone : unsafeIn p (view (instrAt p k)) ≡ []
       → place k < length (q .code)
       → instrAt q (place k) ≡ moved target (instrAt p k)
       → place (k + 1) ≡ place k + 1
       → Stands p q color place target k
-  behind : (aim : Aim) (b s : ℕ) → view (instrAt p k) ≡ store aim b s → safeAim p aim ≡ false
+  behind : (u : Unsafe) → unsafeIn p (view (instrAt p k)) ≡ u ∷ []
       → place k + 1 < length (q .code)
-      → instrAt q (place k) ≡ checkInstr aim (colorOfSet color (setOf p aim s))
+      → instrAt q (place k) ≡ checkInstr (u .aim) (colorOfSet color (u .set))
       → instrAt q (place k + 1) ≡ moved target (instrAt p k)
       → place (k + 1) ≡ place k + 2
       → Stands p q color place target k

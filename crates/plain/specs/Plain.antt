@@ -2,29 +2,22 @@
 -- of its class". It knows objects and places, and has no colors and no table.
 use Prim.Native.Nat.{ℕ, _+_}
 use mathlib.Core.List.{List, [], _∷_, _++_}
-use mathlib.Core.Bool.{Bool, true, false, not}
+use mathlib.Core.Bool.{Bool, true, false}
 use lib.ListN.{getD}
 use lib.Dec.{eqb}
 use Rattle.files.specs.declared.Object.{Object}
 use Rattle.files.specs.Program.{Program}
-use Rattle.opcodes.specs.View.{View, act, jump, jumpIf, store, check, extent}
-use Rattle.coloring.specs.Unsafe.{safeAim, setOf, unsafeSets}
-use Rattle.coloring.specs.Class.{unsafeObject, sameClass}
+use Rattle.opcodes.specs.View.{View, extent}
+use Rattle.coloring.specs.Unsafe.{Unsafe, unsafeIn, unsafeSets}
+use Rattle.coloring.specs.Class.{sameClass}
 use Rattle.layout.specs.Layout.{Piece, startOf}
+use Rattle.routines.specs.Accepted.{plainPieces}
 use Rattle.heap.specs.Memory.{everyByte}
 use Rattle.machine.specs.State.{Rule, Given}
 use Rattle.machine.specs.Runs.{Outcome, runs}
 use Rattle.plain.specs.Live.{Live, owns, someLive, liveMaking, liveFreeing}
 
--- ---- the layout of a routine: an object is safe if no unsafe instruction's set holds it
-
-unfoldable pub plainPiecesFrom : (sets : List (List ℕ)) (g : ℕ) → List Object → List Piece
-plainPiecesFrom sets g [] = []
-plainPiecesFrom sets g (o ∷ os) =
-    record { kind = o .kind; size = o .size; safe = not (unsafeObject sets g) } ∷ plainPiecesFrom sets (g + 1) os
-
-abbrev pub plainPieces : Program → List Piece
-plainPieces p = plainPiecesFrom (unsafeSets p) 0 (p .objects)
+-- ---- the live objects
 
 -- the globals as live objects: "In demand 3 an object is its extent"
 unfoldable pub globalsFrom : List Piece → (g : ℕ) → List Object → List Live
@@ -49,13 +42,13 @@ abbrev pub inClass : Program → (heap : List Live) → (set : List ℕ) → (ad
 inClass p heap set address =
     someLive (λ o. elim (owns o address) [ true ↦ ofClass p set (o .object) | false ↦ false ]) (globals p ++ heap)
 
+-- an unsafe store keeps to its class with every byte; nothing is asked of any other instruction
+abbrev pub keepsTo : Program → (heap : List Live) → List Unsafe → (address n : ℕ) → Bool
+keepsTo p heap [] address n = true
+keepsTo p heap (u ∷ us) address n = everyByte n (inClass p heap (u .set)) address
+
 abbrev pub plainAllows : Program → (heap : List Live) → View → (address n : ℕ) → Bool
-plainAllows p heap (act x) address n = true
-plainAllows p heap (jump t) address n = true
-plainAllows p heap (jumpIf a t) address n = true
-plainAllows p heap (store aim b s) address n =
-    elim (safeAim p aim) [ true ↦ true | false ↦ everyByte n (inClass p heap (setOf p aim s)) address ]
-plainAllows p heap (check aim c) address n = true
+plainAllows p heap v = keepsTo p heap (unsafeIn p v)
 
 unfoldable pub plainRule : Program → Rule (List Live)
 plainRule p =

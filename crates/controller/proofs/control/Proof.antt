@@ -2,10 +2,10 @@ use borrow.Author.Needs.{needs}
 use mathlib.Core.Path.{sym, ap, _∙_}
 use denote.Ref.{now}
 use Rattle.machine.specs.declared.Run.{Run}
-use Rattle.machine.specs.Turn.{answered, lentOf}
 use Rattle.controller.proofs.Controlled.{wrong-memory, wrong-table}
 use Rattle.controller.proofs.control.Statement.{statement}
 use Rattle.controller.proofs.control.Tie as tie
+use Rattle.machine.specs.Running.{answered, lentOf}
 
 refused-requires : tie.Need-refused-requires
 refused-requires c κs = search needs

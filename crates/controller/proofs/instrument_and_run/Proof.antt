@@ -4,11 +4,11 @@ use denote.Ref.{now}
 use lib.Seq.{length-take-le}
 use Rattle.machine.specs.declared.Run.{Run}
 use Rattle.machine.specs.Stop.{refusedRun}
-use Rattle.machine.specs.Turn.{answered, lentOf}
-use Rattle.controller.specs.Control.{whyNot}
+use Rattle.controller.specs.Inside.{whyNot}
 use Rattle.controller.proofs.Controlled.{refused-so, written-so}
 use Rattle.controller.proofs.instrument_and_run.Statement.{statement}
 use Rattle.controller.proofs.instrument_and_run.Tie as tie
+use Rattle.machine.specs.Running.{answered, lentOf}
 
 blank-room-requires : tie.Need-blank-room-requires
 blank-room-requires c κs = search needs

@@ -1,6 +1,6 @@
 use borrow.Author.Needs.{needs}
 use mathlib.Core.Path.{sym, ap}
-use Rattle.controller.specs.Control.{whyNot}
+use Rattle.controller.specs.Inside.{whyNot}
 use Rattle.controller.proofs.why_not.Statement.{statement}
 use Rattle.controller.proofs.why_not.Tie as tie
 

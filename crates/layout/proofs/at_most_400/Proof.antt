@@ -2,7 +2,7 @@
 use mathlib.Core.Path.{refl}
 use native.Mathlib.Omega.{arith}
 use borrow.Author.Tests.{le-leb, lt-leb}
-use Rattle.layout.specs.Layout.{counted}
+use Rattle.layout.specs.Arrays.{counted}
 use Rattle.layout.proofs.at_most_400.Statement.{statement}
 use Rattle.layout.proofs.at_most_400.Tie as tie
 

@@ -2,7 +2,7 @@
 use mathlib.Core.Path.{_∙_, ap}
 use borrow.Author.Needs.{needs}
 use Rattle.files.specs.Held.{tabulate}
-use Rattle.layout.specs.Layout.{pieceAt, piecesIn, layoutOf}
+use Rattle.layout.specs.Arrays.{pieceAt, piecesIn, layoutOf}
 use Rattle.layout.proofs.lay_out.Statement.{statement}
 use Rattle.layout.proofs.lay_out.Tie as tie
 

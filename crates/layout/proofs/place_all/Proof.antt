@@ -4,7 +4,7 @@ use Prim.Native.Nat.{_+_, _*_, _-_, _≤_}
 use mathlib.Core.Path.{refl}
 use native.Mathlib.Omega.{arith}
 use Rattle.files.specs.Held.{filled}
-use Rattle.layout.specs.Layout.{pieceAt}
+use Rattle.layout.specs.Arrays.{pieceAt}
 use Rattle.layout.proofs.Pieces.{Placed, placed-none, placed-more, placed-all}
 use Rattle.layout.proofs.place_all.Statement.{statement}
 use Rattle.layout.proofs.place_all.Tie as tie

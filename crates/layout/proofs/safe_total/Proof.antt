@@ -3,7 +3,8 @@ use Prim.Native.Nat.{_*_, _-_, _≤_}
 use mathlib.Core.Path.{_≡_, refl, ap, _∙_}
 use native.Mathlib.Omega.{arith}
 use Rattle.files.specs.Held.{tabulate}
-use Rattle.layout.specs.Layout.{pieceAt, safeSpace, total}
+use Rattle.layout.specs.Layout.{safeSpace, total}
+use Rattle.layout.specs.Arrays.{pieceAt}
 use Rattle.layout.proofs.Pieces.{sum-more}
 use Rattle.layout.proofs.safe_total.Statement.{statement}
 use Rattle.layout.proofs.safe_total.Tie as tie

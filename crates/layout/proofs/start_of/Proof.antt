@@ -1,7 +1,7 @@
 -- `layout::start_of` meets its contract. The test is the one of `placeFor`.
 use mathlib.Core.Path.{refl}
 use borrow.Author.Tests.{eq-eqb, ne-eqb}
-use Rattle.layout.specs.Layout.{placeFor}
+use Rattle.layout.specs.Arrays.{placeFor}
 use Rattle.layout.proofs.start_of.Statement.{statement}
 use Rattle.layout.proofs.start_of.Tie as tie
 

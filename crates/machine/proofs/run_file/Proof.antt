@@ -1,9 +1,9 @@
 use Rattle.machine.proofs.Loading.{wrong-memory, wrong-table, refuses, runnable, runs-whole}
-use Rattle.machine.specs.Turn.{lentOf}
 use denote.Ref.{now}
 use borrow.Author.Needs.{needs}
 use Rattle.machine.proofs.run_file.Statement.{statement}
 use Rattle.machine.proofs.run_file.Tie as tie
+use Rattle.machine.specs.Running.{lentOf}
 
 refused-requires : tie.Need-refused-requires
 refused-requires c κs = search needs

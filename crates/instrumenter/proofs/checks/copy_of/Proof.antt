@@ -3,11 +3,11 @@ use mathlib.Core.Path.{sym, ap, _∙_}
 use Prim.Native.Nat.{ℕ}
 use lib.ListN.{getD}
 use Rattle.opcodes.specs.declared.Instr.the-variants.{Jump, JumpIf}
-use Rattle.instrumenter.specs.Instrumented.{moved}
 use Rattle.instrumenter.proofs.Cases.{copied-whole}
 use borrow.Author.Needs.{needs}
 use Rattle.instrumenter.proofs.checks.copy_of.Statement.{statement}
 use Rattle.instrumenter.proofs.checks.copy_of.Tie as tie
+use Rattle.opcodes.specs.Moved.{moved}
 
 enum-known-i : tie.Need-enum-known-i
 enum-known-i c = search needs

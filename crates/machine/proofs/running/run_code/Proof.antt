@@ -9,12 +9,13 @@ use Rattle.heap.specs.Memory.{memorySize, tableSize}
 use Rattle.machine.specs.declared.Turn.{Turn}
 use Rattle.files.specs.declared.Line.{Line}
 use Rattle.machine.specs.declared.Run.{Run}
-use Rattle.machine.specs.Turn.{codeOf, Held, held, lentOf, answered, runHeld, turned, turnOf}
+use Rattle.machine.specs.Turn.{codeOf, Held, held, runHeld, turned, turnOf}
 use Rattle.machine.proofs.Places.{code-length, code-at}
 use Rattle.machine.proofs.Temporaries.{narrow-held}
 use Rattle.machine.proofs.Going.{Course, Going, weightOf, AfterTurn, after-turn, stops-past, stops-limit, starts-off}
 use Rattle.machine.proofs.running.run_code.Statement.{statement}
 use Rattle.machine.proofs.running.run_code.Tie as tie
+use Rattle.machine.specs.Running.{lentOf, answered}
 
 -- the run that the loop is in
 abbrev courseOf : (lines : ℕ) (input : List ℕ) (limit : ℕ) (memory table room : List ℕ) (code : List Line) (starts colors : List ℕ) → Course

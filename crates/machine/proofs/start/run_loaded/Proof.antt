@@ -1,10 +1,10 @@
 use Rattle.machine.proofs.Loading.{over-end, low-laid, runs-laid}
-use Rattle.machine.specs.Turn.{lentOf}
 use mathlib.Core.Path.{_∙_}
 use denote.Ref.{now}
 use borrow.Author.Needs.{needs}
 use Rattle.machine.proofs.start.run_loaded.Statement.{statement}
 use Rattle.machine.proofs.start.run_loaded.Tie as tie
+use Rattle.machine.specs.Running.{lentOf}
 
 lay-out-requires : tie.Need-lay-out-requires
 lay-out-requires c κs = search needs

@@ -1,0 +1,1 @@
+// Definitions and theorems alone: where the objects of a routine stand, and which routines are accepted.
