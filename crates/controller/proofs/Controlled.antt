@@ -82,7 +82,7 @@ controls bytes input limit lent exact = controls-because bytes input limit lent 
 -- ---- every answer
 
 control-one-to-seven : (n : ℕ) → 1 ≤ n → n ≤ 7 → holds controlNumbers n ≡ true
-control-one-to-seven = one-to-seven (8 ∷ 9 ∷ 11 ∷ [])
+control-one-to-seven = one-to-seven _
 
 not-accepted-listed : (bytes : List ℕ) (q : Refusal) → NotAccepted bytes q → holds controlNumbers (q .number) ≡ true
 unfolding holds
