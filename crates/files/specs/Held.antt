@@ -4,7 +4,7 @@ use mathlib.Core.List.{List, [], _∷_, _++_, map}
 use mathlib.Core.Bool.{Bool, true, false}
 use lib.ListN.{length, getD, take, drop, replicate}
 use lib.Seq.{sets}
-use lib.Dec.{leb}
+use lib.Dec.{leb, eqb}
 use Rattle.files.specs.declared.Object.{Object}
 use Rattle.opcodes.specs.declared.Instr.{Instr}
 use Rattle.files.specs.declared.Line.{Line}
@@ -82,11 +82,14 @@ fileOf l = spellFile 2 (shown l)
 
 -- what writing answers, and the room afterwards: "10 | room for the version 2 file too small",
 -- "A refusal changes no lent byte", "Bytes .. past the reported lengths stay"
+abbrev pub writtenFor : (number length : ℕ) → Written
+writtenFor number length = elim (eqb number 10) [ true ↦ Written.TooSmall | false ↦ Written.Upto length ]
+
 unfoldable pub writtenIn : (room : List ℕ) → Loaded → Written
 writtenIn room l =
     elim (writable l) [
       | false ↦ Written.NoProgram
-      | true ↦ elim (leb (length (fileOf l)) (length room)) [ true ↦ Written.Upto (length (fileOf l)) | false ↦ Written.TooSmall ]
+      | true ↦ elim (leb (length (fileOf l)) (length room)) [ true ↦ writtenFor 0 (length (fileOf l)) | false ↦ writtenFor 10 0 ]
     ]
 
 unfoldable pub roomWith : (room : List ℕ) → Loaded → List ℕ

@@ -143,18 +143,3 @@ pub one-answer-write : (room : List ℕ) (at n : ℕ) {r r′ : Written} {l l′
     → (r ≡ writtenAt room at n) × (l ≡ roomAfter room at n)
     → (r′ ≡ writtenAt room at n) × (l′ ≡ roomAfter room at n) → (r ≡ r′) × (l ≡ l′)
 one-answer-write room at n p q = (p .0 ∙ sym (q .0), p .1 ∙ sym (q .1))
-
--- ---- 01's examples 7 and 8: the bytes of a file, and what reading its first number answers
-
-unfoldable pub examples : List (List ℕ × Read)
-examples =
-    (0xAC ∷ 0x02 ∷ [], Number 300 (record { at = 2 }))
-    ∷ (0x80 ∷ 0x00 ∷ [], Refused (record { number = 3; place = 0 }))
-    ∷ (0x80 ∷ [], Refused (record { number = 2; place = 1 }))
-    ∷ (0xFF ∷ 0xFF ∷ 0xFF ∷ 0xFF ∷ 0x0F ∷ [], Number 4294967295 (record { at = 5 }))
-    ∷ (0xFF ∷ 0xFF ∷ 0xFF ∷ 0xFF ∷ 0x10 ∷ [], Refused (record { number = 3; place = 0 }))
-    ∷ []
-
-pub examples-hold : map (λ example. readNumber (example .0) 0) examples ≡ map (λ example. example .1) examples
-unfolding readGroups examples
-examples-hold = refl

@@ -12,7 +12,6 @@
 --   reading never looks past its number                              `read-prefix`
 --   a refusal is 2 or 3, with 01's place                             `refusal-is-2-or-3`
 --   two answers that meet a contract are equal                       `one-answer-read`, `-width`, `-write`
---   01's examples 7 and 8                                            `examples-hold`
 --
 -- The first four are one equivalence, by induction on the groups (`Outcome`): a number is read where, and only
 -- where, its spelling stands.

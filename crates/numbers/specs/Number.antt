@@ -72,9 +72,13 @@ readNumber file at = readGroups 5 file at 0 0
 abbrev pub fitsAt : (room : List ℕ) (at n : ℕ) → Bool
 fitsAt room at n = leb (at + width n) (length room)
 
--- what writing a number at a place of a room answers: where it ends, or that it does not fit
+-- the answer by 01's number: "10 | room .. too small", or where the number ends
+abbrev pub writtenFor : (number end : ℕ) → Written
+writtenFor number end = elim (eqb number 10) [ true ↦ TooSmall | false ↦ Upto end ]
+
+-- what writing a number at a place of a room answers
 abbrev pub writtenAt : (room : List ℕ) (at n : ℕ) → Written
-writtenAt room at n = elim (fitsAt room at n) [ true ↦ Upto (at + width n) | false ↦ TooSmall ]
+writtenAt room at n = elim (fitsAt room at n) [ true ↦ writtenFor 0 (at + width n) | false ↦ writtenFor 10 0 ]
 
 -- the room afterwards: the spelling stands at the place and all else is as it was; what does not fit
 -- changes no byte

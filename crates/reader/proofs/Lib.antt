@@ -1,11 +1,11 @@
 -- What the crate promises, and what carries it.
 --
--- A reader holds a file and a place. It is opened at 0 (`open`), moved (`moved`, `after`), and asked for its place
--- (`place`), for what is left (`left`) and for the next number (`number`), each for any file and any place. What
--- it answers is what the functions on the bytes and the place answer, so `read_at` promises what
--- `numbers::read_number` does, and a crate above may call the one for the other.
+-- A reader holds a file and a place. It is opened at 0 (`open`), put behind what was read (`after`), and asked for
+-- the next number (`number`), for any file and any place. What it answers is what the function on the bytes and
+-- the place answers, so `read_at` promises what `numbers::read_number` does, and a crate above may call the one
+-- for the other.
 --
 -- The borrow checker covers no function over a struct that holds a slice: each is a walk of its MIR by hand, in
 -- the folder of its name. What they share, what a reader owns and how it is taken apart and put together, is in
--- `Held`. `left_from` and `number_from`, which do the work, are covered and need no proof by hand.
+-- `Held`. `number_from`, which does the work, is covered and needs no proof by hand.
 pub mod Held

@@ -4,8 +4,6 @@
 // `read_at`, which every reader of files calls, has plain parameters. Nothing here asks anything of its
 // caller.
 ghost use mathlib.Core.Path.{_≡_};
-ghost use Prim.Native.Nat.{_-_};
-ghost use lib.ListN.{length};
 ghost use Rattle.numbers.specs.Number.{readNumber};
 use numbers::Cursor;
 use numbers::Read;
@@ -15,13 +13,6 @@ pub struct Reader<'a> {
     pub file: &'a [u8],
     // Any place, also one past the file's end: there is then nothing left, and a number read is refused.
     pub at: usize,
-}
-
-// How many bytes stand from a place on.
-fn left_from(file: &[u8], at: usize) -> usize
-    ensures { λ r. ⌜ r ≡ length (now (file .entry)) - at ⌝ }
-{
-    if at < file.len() { file.len() - at } else { 0 }
 }
 
 // The number at a place.
@@ -38,13 +29,6 @@ pub fn open<'a>(file: &'a [u8]) -> Reader<'a>
     Reader { file, at: 0 }
 }
 
-// The reader of the same file at another place.
-pub fn moved<'a>(r: Reader<'a>, at: usize) -> Reader<'a>
-    ensures { λ q. ⌜ (q .file ≡ r .entry .file) × (q .at ≡ at) ⌝ }
-{
-    Reader { file: r.file, at }
-}
-
 // The reader behind what was read: where the cursor that came with it stands.
 pub fn after<'a>(r: Reader<'a>, read: Cursor) -> Reader<'a>
     ensures { λ q. ⌜ (q .file ≡ r .entry .file) × (q .at ≡ read .at) ⌝ }
@@ -53,20 +37,6 @@ pub fn after<'a>(r: Reader<'a>, read: Cursor) -> Reader<'a>
         file: r.file,
         at: read.at,
     }
-}
-
-// Where the next number starts.
-pub fn place<'a>(r: Reader<'a>) -> usize
-    ensures { λ n. ⌜ n ≡ r .entry .at ⌝ }
-{
-    r.at
-}
-
-// How many bytes are left.
-pub fn left<'a>(r: Reader<'a>) -> usize
-    ensures { λ n. ⌜ n ≡ length (now (r .entry .file)) - r .entry .at ⌝ }
-{
-    left_from(r.file, r.at)
 }
 
 // The next number; `after` gives the reader behind it.
