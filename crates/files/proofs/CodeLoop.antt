@@ -12,9 +12,9 @@ use Rattle.opcodes.specs.declared.Instr.{Instr}
 use Rattle.files.specs.declared.Line.{Line}
 use Rattle.files.specs.declared.InstrRead.{InstrRead}
 use Rattle.opcodes.specs.Ranges.{Scope}
-use Rattle.files.specs.Reading.{Parsed, got, refused, readInstr, codeFrom}
 use Rattle.files.specs.Held.{filled, line}
 use Rattle.files.proofs.Filled.{map-more}
+use Rattle.files.specs.Parsing.{Parsed, got, refused, readInstr, codeFrom}
 
 -- one turn
 module _ (left : ℕ) (scope : Scope) (file : List ℕ) (at : ℕ) (done : List Instr) where

@@ -12,8 +12,9 @@ use Rattle.numbers.specs.declared.Read.{Read}
 use Rattle.numbers.specs.Number.{readNumber}
 use Rattle.numbers.proofs.Laws.{spelled-of-read, read-of-spelled}
 use Rattle.files.specs.Program.{mostCode}
-use Rattle.files.specs.Reading.{refusal, cursor, judge, judged}
+use Rattle.files.specs.Reading.{refusal, judge, judged}
 use Rattle.files.specs.Writing.{spellIf}
+use Rattle.files.specs.Parsing.{cursor}
 
 module _ (why : ℕ) (test : ℕ → Bool) (file : List ℕ) (at : ℕ) where
   pub not-read : {q : Refusal} → readNumber file at ≡ Read.Refused q → judged why test file at ≡ Read.Refused q

@@ -13,7 +13,8 @@
 -- How the code comes to it: what judging a number answers (`Judging`); one object and one instruction
 -- (`OneObject`, `OneInstr`); the loops over them (`ObjectLoop`, `MemberLoop`, `SetLoop`, `CodeLoop`); arrays
 -- of which the first elements count (`Filled`, `Parts`), and lists of what they hold (`Tabulated`); two tests
--- at once, and a test of every element (`Tests`); the stages of a file (`Stages`).
+-- at once, and a test of every element (`Tests`); reading part after part is reading by the plan (`Following`), and
+-- so for the stages of a file (`Stages`).
 pub mod Tests
 pub mod Filled
 pub mod Tabulated
@@ -25,6 +26,7 @@ mod CodeLoop
 mod MemberLoop
 mod SetLoop
 mod Parts
+pub mod Following
 mod Stages
 pub mod SpelledNumbers
 pub mod SpelledObjects

@@ -15,10 +15,11 @@ use Rattle.numbers.specs.declared.Refusal.{Refusal}
 use Rattle.numbers.specs.declared.Read.{Read}
 use Rattle.numbers.proofs.Laws.{read-bounds}
 use Rattle.opcodes.specs.Ranges.{within}
-use Rattle.files.specs.Reading.{Parsed, got, refused, judged, membersFrom, afterMemberCount, readSet}
-use Rattle.files.specs.Inside.{isMember, memberAt}
+use Rattle.files.specs.Reading.{judged, isMember}
+use Rattle.files.specs.Inside.{memberAt}
 use Rattle.files.proofs.Filled.{sets-append}
 use Rattle.files.proofs.Judging.{good}
+use Rattle.files.specs.Parsing.{Parsed, got, refused, membersFrom, afterMemberCount, readSet}
 
 -- one turn
 module _ (left objects : ℕ) (file : List ℕ) (at low : ℕ) (done : List ℕ) where

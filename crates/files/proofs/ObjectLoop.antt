@@ -10,9 +10,9 @@ use Rattle.numbers.specs.declared.Cursor.{Cursor}
 use Rattle.numbers.specs.declared.Refusal.{Refusal}
 use Rattle.files.specs.declared.Object.{Object}
 use Rattle.files.specs.declared.ObjectRead.{ObjectRead}
-use Rattle.files.specs.Reading.{Parsed, got, refused, readObject, objectsFrom}
 use Rattle.files.specs.Held.{filled}
 use Rattle.files.proofs.Filled.{map-more}
+use Rattle.files.specs.Parsing.{Parsed, got, refused, readObject, objectsFrom}
 
 -- one turn
 module _ (left version : ℕ) (file : List ℕ) (at : ℕ) (done : List Object) where

@@ -15,9 +15,10 @@ use Rattle.opcodes.specs.declared.Scope as declared
 use Rattle.files.specs.declared.InstrRead.{InstrRead}
 use Rattle.opcodes.specs.Table.{rowOf, make}
 use Rattle.opcodes.specs.Ranges.{Scope, within, hasSets, present, allowed, lastOpcode, scopeOver}
-use Rattle.files.specs.Reading.{judged, afterOpcode, afterFirst, afterSecond, afterThird, operandAt, readInstr}
+use Rattle.files.specs.Reading.{judged}
 use Rattle.files.specs.Inside.{Small}
 use Rattle.files.proofs.Judging.{Field, right, field-of-read}
+use Rattle.files.specs.Parsing.{afterOpcode, afterFirst, afterSecond, afterThird, operandAt, readInstr}
 
 module _ (scope : Scope) (file : List ℕ) (at : ℕ) where
   abbrev opcodeAt : Read

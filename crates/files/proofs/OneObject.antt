@@ -7,7 +7,8 @@ use Rattle.numbers.specs.declared.Refusal.{Refusal}
 use Rattle.numbers.specs.declared.Read.{Read}
 use Rattle.files.specs.declared.ObjectRead.{ObjectRead}
 use Rattle.opcodes.specs.Ranges.{within}
-use Rattle.files.specs.Reading.{judged, afterKind, afterSize, afterColor, sizeAt, colorAt, readObject}
+use Rattle.files.specs.Reading.{judged}
+use Rattle.files.specs.Parsing.{afterKind, afterSize, afterColor, sizeAt, colorAt, readObject}
 
 module _ (version : ℕ) (file : List ℕ) (at : ℕ) where
   pub no-kind : {q : Refusal} → judged 6 (within 0 1) file at ≡ Read.Refused q → readObject version file at ≡ ObjectRead.Refused q

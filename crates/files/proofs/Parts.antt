@@ -14,8 +14,8 @@ use Rattle.files.specs.declared.objects.Objects.{Objects}
 use Rattle.files.specs.declared.sets.SetRead.{SetRead}
 use Rattle.files.specs.declared.sets.Sets.{Sets}
 use Rattle.files.specs.declared.instructions.Code.{Code}
-use Rattle.files.specs.Reading.{Parsed, got, refused, cursor}
 use Rattle.files.specs.Inside.{Are, ObjectsHeld, ObjectsAre, SetIs, SetsHeld, SetsAre, CodeHeld, CodeIs}
+use Rattle.files.specs.Parsing.{Parsed, got, refused, cursor}
 
 -- ---- one set
 

@@ -21,13 +21,15 @@ use Rattle.files.specs.declared.Outcome.{Outcome}
 use Rattle.opcodes.specs.declared.Instr.{Instr}
 use Rattle.opcodes.specs.Ranges.{Scope, hasSets, within}
 use Rattle.files.specs.Program.{Program, mostCode, longest, kindsOf}
-use Rattle.files.specs.Reading.{Parsed, got, Reading, whole, judged, readFile, afterVersion, afterObjectCount, afterObjects, afterSetCount, afterSets, afterCodeCount, afterCode, objectsFrom, setsFrom, codeFrom}
+use Rattle.files.specs.Reading.{Reading, whole, judged, readFile}
 use Rattle.files.specs.Writing.{spellFile, spellAll, spellObject, spellSet, spellSets, spellInstr, every, goodObject, rising, goodSet, goodSets, goodInstr, goodProgram, scopeOf, both, Says}
+use Rattle.files.proofs.Following.{read-by-parts}
 use Rattle.files.proofs.SpelledNumbers.{Stands, stands-nil, stands-append, stands-split, Judged, judged-of-read, read-of-judged}
 use Rattle.opcodes.proofs.Bounds.{within-bounds, within-true}
 use Rattle.files.proofs.Tests.{both-true, both-left, both-right, every-at}
 use Rattle.files.proofs.SpelledInstructions.{Bounded}
 use Rattle.files.proofs.SpelledLists.{objects-of-read, read-of-objects, sets-of-read, read-of-sets, code-of-read, read-of-code}
+use Rattle.files.specs.Parsing.{Parsed, got, afterVersion, afterObjectCount, afterObjects, afterSetCount, afterSets, afterCodeCount, afterCode, objectsFrom, setsFrom, codeFrom}
 
 -- ---- what a good program says, piece by piece
 
@@ -287,13 +289,16 @@ module _ (version : ℕ) (file : List ℕ) (p : Program) (fits : length file ≤
 -- what is read is a good program, and the file is byte for byte its spelling
 pub one-spelling : (version : ℕ) (file : List ℕ) (p : Program) → readFile version file ≡ whole p → Says version file p
 unfolding readFile Right
-one-spelling version file p e = go (leb (length file) (longest version)) refl e
+one-spelling version file p e = go (leb (length file) (longest version)) refl
   where
-    go : (t : Bool) → leb (length file) (longest version) ≡ t
-        → elim t as (λ _. Reading) [ true ↦ afterVersion version file (judged 4 (within version version) file 0) | false ↦ Reading.refused (record { number = 1; place = 0 }) ] ≡ whole p
-        → Says version file p
-    go true q e = versioned version file p (leb-true (length file) (longest version) q) (judged 4 (within version version) file 0) refl e
-    go false q e = let z : _≡_ {A = ℕ} 0 1 = cc in absurd (omega arith)
+    go : (t : Bool) → leb (length file) (longest version) ≡ t → Says version file p
+    go true q =
+        let fits : length file ≤ longest version = leb-true (length file) (longest version) q in
+        versioned version file p fits (judged 4 (within version version) file 0) refl (sym (read-by-parts file version fits) ∙ e)
+    go false q =
+        let long : readFile version file ≡ Reading.refused (record { number = 1; place = 0 }) = rw (q, readFile) in
+        let z : _≡_ {A = ℕ} 0 1 = cc in
+        absurd (omega arith)
 
 -- ---- what is spelled is read
 
@@ -383,11 +388,10 @@ pieces-of version p =
 
 -- what is written for a good program is read back as exactly that program
 pub reads-back : (version : ℕ) → version < 2 ^ 32 → (p : Program) → goodProgram version p ≡ true → readFile version (spellFile version p) ≡ whole p
-unfolding readFile
 reads-back version small p e =
     let g : Good version p = good-of version p e in
-    rw (le-leb (length (spellFile version p)) (longest version) (g .short), readFile)
-    (read-of-pieces version small (spellFile version p) p g (pieces-of version p))
+    read-by-parts (spellFile version p) version (g .short)
+    ∙ read-of-pieces version small (spellFile version p) p g (pieces-of version p)
 
 -- ---- for those who hold what was read
 

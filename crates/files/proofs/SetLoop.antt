@@ -8,10 +8,10 @@ use native.Mathlib.Omega.{arith}
 use lib.ListN.{length, set, length-append}
 use lib.Seq.{sets}
 use Rattle.numbers.specs.declared.Refusal.{Refusal}
-use Rattle.files.specs.Reading.{Parsed, got, refused, readSet, setsFrom}
 use Rattle.files.specs.Held.{filled, endsFrom, joined}
 use Rattle.files.proofs.Filled.{filled-more, filled-run, length-filled}
 use Rattle.files.proofs.MemberLoop.{set-bounds}
+use Rattle.files.specs.Parsing.{Parsed, got, refused, readSet, setsFrom}
 
 -- one turn
 module _ (left objects : ℕ) (file : List ℕ) (at : ℕ) (done : List (List ℕ)) where

@@ -18,10 +18,11 @@ use Rattle.files.specs.declared.InstrRead.{InstrRead}
 use Rattle.opcodes.specs.declared.Parts.{Parts}
 use Rattle.opcodes.specs.Table.{rowOf, make, partsOf}
 use Rattle.opcodes.specs.Ranges.{Scope, within, present, allowed, lastOpcode}
-use Rattle.files.specs.Reading.{cursor, judged, readInstr, afterOpcode, afterFirst, afterSecond, afterThird, operandAt}
+use Rattle.files.specs.Reading.{judged}
 use Rattle.files.specs.Writing.{spellIf, spellParts, spellInstr, goodOperand, goodParts, goodInstr, both}
 use Rattle.files.proofs.SpelledNumbers.{Stands, stands-append, stands-split, Judged, judged-of-read, read-of-judged, Optional, optional-of-read, read-of-optional}
 use Rattle.files.proofs.Tests.{both-true, both-left, both-right}
+use Rattle.files.specs.Parsing.{cursor, readInstr, afterOpcode, afterFirst, afterSecond, afterThird, operandAt}
 
 -- ---- operands
 

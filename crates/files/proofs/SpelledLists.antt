@@ -16,13 +16,14 @@ use Rattle.files.specs.declared.ObjectRead.{ObjectRead}
 use Rattle.opcodes.specs.declared.Instr.{Instr}
 use Rattle.files.specs.declared.InstrRead.{InstrRead}
 use Rattle.opcodes.specs.Ranges.{Scope, within}
-use Rattle.files.specs.Reading.{Parsed, got, cursor, judged, readObject, objectsFrom, readSet, afterMemberCount, membersFrom, setsFrom, readInstr, codeFrom}
+use Rattle.files.specs.Reading.{judged}
 use Rattle.files.specs.Writing.{spellAll, spellObject, spellSet, spellInstr, every, goodObject, goodSet, goodInstr, rising, both}
 use Rattle.files.proofs.SpelledNumbers.{Stands, stands-nil, stands-append, stands-split, judged-of-read, read-of-judged}
 use Rattle.opcodes.proofs.Bounds.{within-bounds}
 use Rattle.files.proofs.Tests.{both-true, both-left, both-right, both-is, every-head, every-tail, every-cons}
 use Rattle.files.proofs.SpelledObjects.{object-of-read, read-of-object}
 use Rattle.files.proofs.SpelledInstructions.{Bounded, instr-of-read, read-of-instr}
+use Rattle.files.specs.Parsing.{Parsed, got, cursor, readObject, objectsFrom, readSet, afterMemberCount, membersFrom, setsFrom, readInstr, codeFrom}
 
 unfoldable pub many : {A : Type 0} → (one : ℕ → Parsed A) → (left at : ℕ) → (done : List A) → Parsed (List A)
 many one zero at done = got done at

@@ -15,8 +15,9 @@ use Rattle.numbers.specs.declared.Cursor.{Cursor}
 use Rattle.numbers.specs.declared.Read.{Read}
 use Rattle.numbers.specs.Number.{spell, readNumber}
 use Rattle.numbers.proofs.Laws.{spelled-of-read, read-of-spelled}
-use Rattle.files.specs.Reading.{judge, judged, cursor, refusal}
+use Rattle.files.specs.Reading.{judge, judged, refusal}
 use Rattle.files.specs.Writing.{spellIf}
+use Rattle.files.specs.Parsing.{cursor}
 
 pub record Stands (file : List ℕ) (at : ℕ) (bytes : List ℕ) (next : ℕ) : Type 0 where
   pub stands : drop at file ≡ bytes ++ drop next file

@@ -15,10 +15,11 @@ use Rattle.files.specs.declared.Object.{Object}
 use Rattle.files.specs.declared.ObjectRead.{ObjectRead}
 use Rattle.opcodes.specs.Ranges.{within, isColor}
 use Rattle.files.specs.Program.{hasColors}
-use Rattle.files.specs.Reading.{cursor, judged, readObject, afterKind, afterSize, afterColor, sizeAt, colorAt}
+use Rattle.files.specs.Reading.{judged}
 use Rattle.files.specs.Writing.{spellIf, spellObject, goodObject, both}
 use Rattle.files.proofs.Tests.{both-true, both-left, both-right}
 use Rattle.files.proofs.SpelledNumbers.{Stands, stands-append, stands-split, Judged, judged-of-read, read-of-judged, goodIf, Optional, optional-of-read, read-of-optional}
+use Rattle.files.specs.Parsing.{cursor, readObject, afterKind, afterSize, afterColor, sizeAt, colorAt}
 
 -- a color that stands there or does not is at most 255
 pub color-most : (b : Bool) (n : ℕ) → goodIf b isColor n ≡ true → n ≤ 255

@@ -5,7 +5,7 @@ use mathlib.Core.List.{List}
 use mathlib.Core.Bool.{Bool, true, false}
 use Prim.Native.Nat.{ℕ, _≤_, _<_}
 use lib.ListN.{length, take, length-map}
-use borrow.Author.Tests.{le-leb, lt-leb, eq-eqb, ne-eqb}
+use borrow.Author.Tests.{lt-leb, eq-eqb, ne-eqb}
 use Rattle.numbers.specs.declared.Cursor.{Cursor}
 use Rattle.numbers.specs.declared.Refusal.{Refusal}
 use Rattle.numbers.specs.declared.Read.{Read}
@@ -18,11 +18,13 @@ use Rattle.files.specs.declared.sets.Sets.{Sets}
 use Rattle.files.specs.declared.instructions.Code.{Code}
 use Rattle.opcodes.specs.Ranges.{hasSets, within}
 use Rattle.files.specs.Program.{kindsOf, longest, mostCode}
-use Rattle.files.specs.Reading.{got, refused, Reading, whole, refusal, judged, afterVersion, afterObjectCount, afterObjects, afterSetCount, afterSets, afterCodeCount, afterCode, readFile}
+use Rattle.files.specs.Reading.{Reading, whole, refusal, judged, readFile}
 use Rattle.files.specs.Held.{held, heldAs}
 use Rattle.files.specs.Inside.{objectsAfter, objectsBehind, objectsOf, setsAfter, setsOf, codeAfter, codeOf, ObjectsAre, ObjectsHeld, SetsAre, SetsHeld, CodeIs, CodeHeld, wholeOf}
+use Rattle.files.proofs.Following.{read-by-parts}
 use Rattle.files.proofs.Filled.{take-filled}
 use Rattle.files.proofs.Parts.{objects-read, objects-refused, sets-read, sets-refused, code-read, code-refused}
+use Rattle.files.specs.Parsing.{got, refused, afterVersion, afterObjectCount, afterObjects, afterSetCount, afterSets, afterCodeCount, afterCode}
 
 -- ---- the definition, part by part
 
@@ -40,8 +42,7 @@ module _ (version : ℕ) (file : List ℕ) where
   by-version (Read.Refused q) = refl
 
   pub by-objects : length file ≤ longest version → readFile version file ≡ afterObjects version file (objectsOf version file)
-  unfolding readFile
-  by-objects h = rw (le-leb _ _ h, readFile) (by-version (judged 4 (within version version) file 0))
+  by-objects h = read-by-parts file version h ∙ by-version (judged 4 (within version version) file 0)
 
   by-set-count : (os : List Object) (r : Read) → afterSetCount version file os r ≡ afterSets version file os (setsAfter (length os) file r)
   by-set-count os (Read.Number n next) = refl

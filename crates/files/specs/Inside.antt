@@ -22,8 +22,9 @@ use Rattle.files.specs.declared.sets.Sets.{Sets}
 use Rattle.files.specs.declared.instructions.Code.{Code}
 use Rattle.opcodes.specs.Ranges.{hasSets, within}
 use Rattle.files.specs.Program.{mostCode}
-use Rattle.files.specs.Reading.{Parsed, got, refused, refusal, cursor, judged, objectsFrom, setsFrom, codeFrom}
+use Rattle.files.specs.Reading.{isMember, refusal, judged}
 use Rattle.files.specs.Held.{filled, line, endsFrom, joined}
+use Rattle.files.specs.Parsing.{Parsed, got, refused, cursor, objectsFrom, setsFrom, codeFrom}
 
 -- a scope whose names fit the fields of an instruction
 pub record Small (scope : Scope) (kinds : List ℕ) : Type 0 where
@@ -90,9 +91,6 @@ codeOf version kinds sets file at =
     codeAfter version kinds sets file (judged 5 (within 1 (mostCode version)) file at)
 
 -- a member of a set: an object's number that is not below `low`
-abbrev pub isMember : (objects low n : ℕ) → Bool
-isMember objects low n = elim (leb low n) [ true ↦ ltb n objects | false ↦ false ]
-
 abbrev pub memberAt : (objects low : ℕ) → List ℕ → (at : ℕ) → Read
 memberAt objects low file at = judged 6 (isMember objects low) file at
 

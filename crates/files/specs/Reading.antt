@@ -5,135 +5,15 @@ use mathlib.Core.List.{List, [], _∷_, _++_}
 use mathlib.Core.Bool.{Bool, true, false}
 use lib.ListN.{length}
 use lib.Dec.{ltb, leb, eqb}
-use Rattle.numbers.specs.declared.Cursor.{Cursor}
 use Rattle.numbers.specs.declared.Refusal.{Refusal}
 use Rattle.numbers.specs.declared.Read.{Read}
 use Rattle.numbers.specs.Number.{readNumber}
 use Rattle.opcodes.specs.declared.Operand.{Operand}
-use Rattle.files.specs.declared.Object.{Object}
 use Rattle.opcodes.specs.declared.Instr.{Instr}
-use Rattle.files.specs.declared.ObjectRead.{ObjectRead}
-use Rattle.files.specs.declared.InstrRead.{InstrRead}
 use Rattle.opcodes.specs.Table.{rowOf, make}
 use Rattle.opcodes.specs.Ranges.{Scope, hasSets, lastOpcode, within, isColor, present, allowed}
+use Rattle.files.specs.declared.Object.{Object}
 use Rattle.files.specs.Program.{Program, hasColors, mostCode, longest, kindsOf}
-
--- the answer to reading several things: what was read and where the next thing starts, or a refusal
-pub data Parsed (A : Type 0) : Type 0 where
-  got : A → (next : ℕ) → Parsed A
-  refused : Refusal → Parsed A
-
-abbrev pub refusal : (number place : ℕ) → Refusal
-refusal number place = record { number = number; place = place }
-
-abbrev pub cursor : ℕ → Cursor
-cursor at = record { at = at }
-
--- "any other field out of its range or order | its first byte": a number that has to pass a test
-abbrev pub judge : (why at : ℕ) → (ℕ → Bool) → Read → Read
-judge why at test (Read.Number n next) =
-    elim (test n) [ true ↦ Read.Number n next | false ↦ Read.Refused (refusal why at) ]
-judge why at test (Read.Refused q) = Read.Refused q
-
-abbrev pub judged : (why : ℕ) → (ℕ → Bool) → List ℕ → (at : ℕ) → Read
-judged why test file at = judge why at test (readNumber file at)
-
--- ---- objects: "each is kind 0 (global) with a size 1 to 4,096, or kind 1 (heap site) with no size",
--- in version 2 with "a color (0 or 2 to 255) at the end"
-
-abbrev pub afterColor : (kind size : ℕ) → Read → ObjectRead
-afterColor kind size (Read.Number n next) = ObjectRead.Object (record { kind = kind; size = size; color = n }) next
-afterColor kind size (Read.Refused q) = ObjectRead.Refused q
-
-abbrev pub colorAt : (version : ℕ) → List ℕ → (at : ℕ) → Read
-colorAt version file at =
-    elim (hasColors version) [ true ↦ judged 6 isColor file at | false ↦ Read.Number 0 (cursor at) ]
-
-abbrev pub afterSize : (version : ℕ) → List ℕ → (kind : ℕ) → Read → ObjectRead
-afterSize version file kind (Read.Number n next) = afterColor kind n (colorAt version file (next .at))
-afterSize version file kind (Read.Refused q) = ObjectRead.Refused q
-
-abbrev pub sizeAt : List ℕ → (kind at : ℕ) → Read
-sizeAt file kind at =
-    elim (eqb kind 0) [ true ↦ judged 6 (within 1 4096) file at | false ↦ Read.Number 0 (cursor at) ]
-
-abbrev pub afterKind : (version : ℕ) → List ℕ → Read → ObjectRead
-afterKind version file (Read.Number n next) = afterSize version file n (sizeAt file n (next .at))
-afterKind version file (Read.Refused q) = ObjectRead.Refused q
-
-abbrev pub readObject : (version : ℕ) → List ℕ → (at : ℕ) → ObjectRead
-readObject version file at = afterKind version file (judged 6 (within 0 1) file at)
-
--- `left` objects more, after those that are done
-unfoldable pub objectsFrom : (left version : ℕ) → List ℕ → (at : ℕ) → (done : List Object) → Parsed (List Object)
-objectsFrom zero version file at done = got done at
-objectsFrom (suc left) version file at done =
-    elim (readObject version file at) [
-      | ObjectRead.Object o next ↦ objectsFrom left version file (next .at) (done ++ o ∷ [])
-      | ObjectRead.Refused q ↦ refused q
-    ]
-
--- ---- sets: "each is a count, 1 to the count of objects, and that many object numbers, strictly rising"
-
--- `left` members more, none below `low`
-unfoldable pub membersFrom : (left objects : ℕ) → List ℕ → (at low : ℕ) → (done : List ℕ) → Parsed (List ℕ)
-membersFrom zero objects file at low done = got done at
-membersFrom (suc left) objects file at low done =
-    elim (judged 6 (λ n. elim (leb low n) [ true ↦ ltb n objects | false ↦ false ]) file at) [
-      | Read.Number n next ↦ membersFrom left objects file (next .at) (n + 1) (done ++ n ∷ [])
-      | Read.Refused q ↦ refused q
-    ]
-
-abbrev pub afterMemberCount : (objects : ℕ) → List ℕ → Read → Parsed (List ℕ)
-afterMemberCount objects file (Read.Number n next) = membersFrom n objects file (next .at) 0 []
-afterMemberCount objects file (Read.Refused q) = refused q
-
-abbrev pub readSet : (objects : ℕ) → List ℕ → (at : ℕ) → Parsed (List ℕ)
-readSet objects file at = afterMemberCount objects file (judged 5 (within 1 objects) file at)
-
-unfoldable pub setsFrom : (left objects : ℕ) → List ℕ → (at : ℕ) → (done : List (List ℕ)) → Parsed (List (List ℕ))
-setsFrom zero objects file at done = got done at
-setsFrom (suc left) objects file at done =
-    elim (readSet objects file at) [
-      | got set next ↦ setsFrom left objects file next (done ++ set ∷ [])
-      | refused q ↦ refused q
-    ]
-
--- ---- instructions: the opcode, and the operands that its row names
-
-abbrev pub operandAt : Scope → Operand → List ℕ → (at : ℕ) → Read
-operandAt scope kind file at =
-    elim (present (scope .version) kind)
-    [ true ↦ judged 6 (allowed scope kind) file at | false ↦ Read.Number 0 (cursor at) ]
-
-abbrev pub afterThird : (op x y : ℕ) → Read → InstrRead
-afterThird op x y (Read.Number z next) = InstrRead.Instr (make op x y z) next
-afterThird op x y (Read.Refused q) = InstrRead.Refused q
-
-abbrev pub afterSecond : Scope → List ℕ → (op x : ℕ) → Read → InstrRead
-afterSecond scope file op x (Read.Number y next) = afterThird op x y (operandAt scope (rowOf op .third) file (next .at))
-afterSecond scope file op x (Read.Refused q) = InstrRead.Refused q
-
-abbrev pub afterFirst : Scope → List ℕ → (op : ℕ) → Read → InstrRead
-afterFirst scope file op (Read.Number x next) = afterSecond scope file op x (operandAt scope (rowOf op .second) file (next .at))
-afterFirst scope file op (Read.Refused q) = InstrRead.Refused q
-
-abbrev pub afterOpcode : Scope → List ℕ → Read → InstrRead
-afterOpcode scope file (Read.Number op next) = afterFirst scope file op (operandAt scope (rowOf op .first) file (next .at))
-afterOpcode scope file (Read.Refused q) = InstrRead.Refused q
-
-abbrev pub readInstr : Scope → List ℕ → (at : ℕ) → InstrRead
-readInstr scope file at = afterOpcode scope file (judged 6 (within 0 (lastOpcode (scope .version))) file at)
-
-unfoldable pub codeFrom : (left : ℕ) → Scope → List ℕ → (at : ℕ) → (done : List Instr) → Parsed (List Instr)
-codeFrom zero scope file at done = got done at
-codeFrom (suc left) scope file at done =
-    elim (readInstr scope file at) [
-      | InstrRead.Instr i next ↦ codeFrom left scope file (next .at) (done ++ i ∷ [])
-      | InstrRead.Refused q ↦ refused q
-    ]
-
--- ---- the whole file
 
 pub data Reading : Type 0 where
   whole : Program → Reading
@@ -144,51 +24,112 @@ abbrev pub onWhole : (Program → Reading) → Reading → Reading
 onWhole next (whole p) = next p
 onWhole next (Reading.refused q) = Reading.refused q
 
--- "7 | bytes after the last instruction | the first of them"
-abbrev pub afterCode : List ℕ → List Object → List (List ℕ) → Parsed (List Instr) → Reading
-afterCode file objects sets (got code next) =
-    elim (eqb next (length file)) [
-      | true ↦ whole (record { objects = objects; sets = sets; code = code })
-      | false ↦ Reading.refused (refusal 7 next)
-    ]
-afterCode file objects sets (Parsed.refused q) = Reading.refused q
+abbrev pub refusal : (number place : ℕ) → Refusal
+refusal number place = record { number = number; place = place }
 
-abbrev pub afterCodeCount : (version : ℕ) → List ℕ → List Object → List (List ℕ) → Read → Reading
-afterCodeCount version file objects sets (Read.Number n next) =
-    afterCode file objects sets
-    (codeFrom n (record { version = version; kinds = kindsOf objects; sets = length sets; code = n }) file (next .at) [])
-afterCodeCount version file objects sets (Read.Refused q) = Reading.refused q
+-- "any other field out of its range or order | its first byte": a number that has to pass a test
+abbrev pub judge : (why at : ℕ) → (ℕ → Bool) → Read → Read
+judge why at test (Read.Number n next) =
+    elim (test n) [ true ↦ Read.Number n next | false ↦ Read.Refused (refusal why at) ]
+judge why at test (Read.Refused q) = Read.Refused q
 
-abbrev pub afterSets : (version : ℕ) → List ℕ → List Object → Parsed (List (List ℕ)) → Reading
-afterSets version file objects (got sets next) =
-    afterCodeCount version file objects sets (judged 5 (within 1 (mostCode version)) file next)
-afterSets version file objects (Parsed.refused q) = Reading.refused q
+abbrev pub judged : (why : ℕ) → (ℕ → Bool) → List ℕ → (at : ℕ) → Read
+judged why test file at = judge why at test (readNumber file at)
 
-abbrev pub afterSetCount : (version : ℕ) → List ℕ → List Object → Read → Reading
-afterSetCount version file objects (Read.Number n next) =
-    afterSets version file objects (setsFrom n (length objects) file (next .at) [])
-afterSetCount version file objects (Read.Refused q) = Reading.refused q
+-- ---- "A file is numbers and nothing else": which numbers are asked for, one after the other, each with its
+-- test. What is asked next hangs on the numbers before it.
 
-abbrev pub afterObjects : (version : ℕ) → List ℕ → Parsed (List Object) → Reading
-afterObjects version file (got objects next) =
-    elim (hasSets version) [
-      | true ↦ afterSetCount version file objects (judged 5 (within 0 400) file next)
-      | false ↦ afterSets version file objects (got [] next)
-    ]
-afterObjects version file (Parsed.refused q) = Reading.refused q
+-- "4, 5, 6 | version; count; any other field"
+pub data Sort : Type 0 where
+  count : Sort
+  field : Sort
 
-abbrev pub afterObjectCount : (version : ℕ) → List ℕ → Read → Reading
-afterObjectCount version file (Read.Number n next) = afterObjects version file (objectsFrom n version file (next .at) [])
-afterObjectCount version file (Read.Refused q) = Reading.refused q
+abbrev pub refusedWith : Sort → ℕ
+refusedWith count = 5
+refusedWith field = 6
 
-abbrev pub afterVersion : (version : ℕ) → List ℕ → Read → Reading
-afterVersion version file (Read.Number n next) = afterObjectCount version file (judged 5 (within 0 400) file (next .at))
-afterVersion version file (Read.Refused q) = Reading.refused q
+pub data Plan : Type 0 where
+  done : Program → Plan
+  ask : Sort → (test : ℕ → Bool) → (ℕ → Plan) → Plan
+
+-- the number and the place behind it, or the end of reading
+abbrev pub on : Read → (ℕ → ℕ → Reading) → Reading
+on (Read.Number n next) f = f n (next .at)
+on (Read.Refused q) f = Reading.refused q
+
+-- reading by a plan from a place on: "7 | bytes after the last instruction | the first of them"
+unfoldable pub follow : Plan → List ℕ → (at : ℕ) → Reading
+follow (done p) file at = elim (eqb at (length file)) [ true ↦ whole p | false ↦ Reading.refused (refusal 7 at) ]
+follow (ask sort test next) file at = on (judged (refusedWith sort) test file at) (λ n behind. follow (next n) file behind)
+
+-- a field that stands in the file, or 0
+abbrev pub maybe : Bool → (ℕ → Bool) → (ℕ → Plan) → Plan
+maybe true test k = ask field test k
+maybe false test k = k 0
+
+-- `left` things more, after those that are read
+unfoldable pub many : {X : Type 0} → (left : ℕ) → ((X → Plan) → Plan) → List X → (List X → Plan) → Plan
+many zero one xs k = k xs
+many (suc left) one xs k = one (λ x. many left one (xs ++ x ∷ []) k)
+
+-- "each is kind 0 (global) with a size 1 to 4,096, or kind 1 (heap site) with no size", in version 2 with "a
+-- color (0 or 2 to 255) at the end"
+abbrev pub objectPlan : (version : ℕ) → (Object → Plan) → Plan
+objectPlan version k =
+    ask field (within 0 1) λ kind.
+    maybe (eqb kind 0) (within 1 4096) λ size.
+    maybe (hasColors version) isColor λ color.
+    k (record { kind = kind; size = size; color = color })
+
+-- "that many object numbers, strictly rising": `left` members more, none below `low`
+abbrev pub isMember : (objects low n : ℕ) → Bool
+isMember objects low n = elim (leb low n) [ true ↦ ltb n objects | false ↦ false ]
+
+unfoldable pub membersPlan : (left objects low : ℕ) → List ℕ → (List ℕ → Plan) → Plan
+membersPlan zero objects low ns k = k ns
+membersPlan (suc left) objects low ns k =
+    ask field (isMember objects low) λ n. membersPlan left objects (n + 1) (ns ++ n ∷ []) k
+
+-- "each is a count, 1 to the count of objects, and that many object numbers"
+abbrev pub setPlan : (objects : ℕ) → (List ℕ → Plan) → Plan
+setPlan objects k = ask count (within 1 objects) λ n. membersPlan n objects 0 [] k
+
+-- "the count of sets, 0 to 400"; "Version 2 .. has .. no sets"
+abbrev pub setsPlan : Bool → (objects : ℕ) → (List (List ℕ) → Plan) → Plan
+setsPlan true objects k = ask count (within 0 400) λ n. many n (setPlan objects) [] k
+setsPlan false objects k = k []
+
+-- an instruction: the opcode, and the operands that its row names
+abbrev pub operandPlan : Scope → Operand → (ℕ → Plan) → Plan
+operandPlan scope kind k = maybe (present (scope .version) kind) (allowed scope kind) k
+
+abbrev pub instrPlan : Scope → (Instr → Plan) → Plan
+instrPlan scope k =
+    ask field (within 0 (lastOpcode (scope .version))) λ op.
+    operandPlan scope (rowOf op .first) λ x.
+    operandPlan scope (rowOf op .second) λ y.
+    operandPlan scope (rowOf op .third) λ z.
+    k (make op x y z)
+
+-- behind the version: "the count of objects, 0 to 400; ..; the count of sets ..; the count of instructions, 1 to
+-- 1,000, and the instructions"
+abbrev pub codePlan : (version : ℕ) → List Object → List (List ℕ) → Plan
+codePlan version os ss =
+    ask count (within 1 (mostCode version)) λ n.
+    many n (instrPlan (record { version = version; kinds = kindsOf os; sets = length ss; code = n })) [] λ code.
+    done (record { objects = os; sets = ss; code = code })
+
+abbrev pub filePlan : (version : ℕ) → Plan
+filePlan version =
+    ask count (within 0 400) λ n.
+    many n (objectPlan version) [] λ os.
+    setsPlan (hasSets version) (length os) λ ss.
+    codePlan version os ss
 
 -- "Order: .. then 1, then the file from left to right"; "1 | file too long | 0"; "4 | version"
 unfoldable pub readFile : (version : ℕ) → List ℕ → Reading
 readFile version file =
     elim (leb (length file) (longest version)) [
-      | true ↦ afterVersion version file (judged 4 (within version version) file 0)
+      | true ↦ on (judged 4 (within version version) file 0) (λ n behind. follow (filePlan version) file behind)
       | false ↦ Reading.refused (refusal 1 0)
     ]

@@ -11,8 +11,9 @@ use opcodes::ranges::is_within;
 use opcodes::table::is_present;
 ghost use mathlib.Core.Path.{_≡_};
 ghost use Rattle.opcodes.specs.Ranges.{within, scopeOver};
-ghost use Rattle.files.specs.Reading.{judged, colorAt, sizeAt, operandAt};
-ghost use Rattle.files.specs.Inside.{whyRead, isMember, memberAt};
+ghost use Rattle.files.specs.Reading.{judged, isMember};
+ghost use Rattle.files.specs.Inside.{whyRead, memberAt};
+ghost use Rattle.files.specs.Parsing.{colorAt, sizeAt, operandAt};
 
 // Why a number was not read.
 pub(crate) fn why_read(read: Read) -> Refusal

@@ -20,8 +20,8 @@ ghost use Prim.Native.Nat.{_≤_};
 ghost use lib.ListN.{length};
 ghost use Rattle.opcodes.specs.Ranges.{scopeOver};
 ghost use Rattle.files.specs.Program.{mostCode};
-ghost use Rattle.files.specs.Reading.{readInstr, codeFrom};
 ghost use Rattle.files.specs.Inside.{Small, whyInstr, CodeIs, codeOf};
+ghost use Rattle.files.specs.Parsing.{readInstr, codeFrom};
 
 // The instructions of a file, and how reading them ended.
 pub struct Code {

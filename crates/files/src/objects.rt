@@ -15,8 +15,8 @@ use numbers::Refusal;
 ghost use mathlib.Core.Path.{_≡_};
 ghost use mathlib.Core.List.{[]};
 ghost use Prim.Native.Nat.{_≤_};
-ghost use Rattle.files.specs.Reading.{readObject, refused, objectsFrom};
 ghost use Rattle.files.specs.Inside.{whyObject, ObjectsAre, objectsOf};
+ghost use Rattle.files.specs.Parsing.{readObject, refused, objectsFrom};
 
 // The objects of a file, and how reading them ended.
 pub struct Objects {

@@ -13,8 +13,8 @@ ghost use mathlib.Core.List.{[]};
 ghost use Prim.Native.Nat.{_≤_};
 ghost use lib.ListN.{length};
 ghost use Rattle.files.specs.Program.{longest};
-ghost use Rattle.files.specs.Reading.{setsFrom, membersFrom, readSet};
 ghost use Rattle.files.specs.Inside.{whySet, SetIs, SetsAre, Roomy, noSets, setsOf};
+ghost use Rattle.files.specs.Parsing.{setsFrom, membersFrom, readSet};
 
 // What reading one set answers: where it ends among the members, and the next cursor.
 pub enum SetRead {

@@ -7,7 +7,7 @@ use mathlib.Core.Bool.{Bool, true, false}
 use lib.ListN.{length, getD, take, drop}
 use Rattle.numbers.specs.Number.{readGroups, groups}
 use Rattle.files.specs.Program.{Program}
-use Rattle.files.specs.Reading.{whole, refusal, readFile, objectsFrom, setsFrom, membersFrom, codeFrom}
+use Rattle.files.specs.Reading.{whole, refusal, follow, many, membersPlan, readFile}
 use Rattle.files.specs.Writing.{spellFile, spellAll}
 use Rattle.coloring.specs.Unsafe.{setsIn}
 use Rattle.coloring.specs.Class.{holds, some, meets, join, classesOf}
@@ -30,7 +30,7 @@ use Rattle.proved_set.specs.Examples.{versionTwo, zeros, runOf, numbersO
 -- ---- all rows but 9 and 10
 
 given-nine-and-ten : fourBodies ≡ 28680 ∷ 28696 ∷ 28720 ∷ 28680 ∷ [] → heapAfter 2 3 ≡ 28672 ∷ 28656 ∷ 0 ∷ 0 ∷ [] → heapAfter 3 2 ≡ 28672 ∷ 28656 ∷ 0 ∷ 0 ∷ [] → ProvedSet
-unfolding readGroups groups readFile objectsFrom setsFrom membersFrom codeFrom spellFile spellAll setsIn holds some meets join classesOf lowestFrom classesBelow colorOf tinted plainPiecesFrom total startOf guarded spanOf newPlace instrumented instrument bytesOf numberAt put fill colorAt everyByte putHeader emptyHeap placesIn blankMemory step runFrom runs tableRule paintGlobals blankTable firstTable runFile
+unfolding readGroups groups readFile follow many membersPlan spellFile spellAll setsIn holds some meets join classesOf lowestFrom classesBelow colorOf tinted plainPiecesFrom total startOf guarded spanOf newPlace instrumented instrument bytesOf numberAt put fill colorAt everyByte putHeader emptyHeap placesIn blankMemory step runFrom runs tableRule paintGlobals blankTable firstTable runFile
 given-nine-and-ten nine ten ten′ =
     (refl, (refl, (refl, (refl, (refl, (refl, (refl, (refl, (refl, (refl, (refl, (refl, (refl, (nine, (ten, (ten′, (refl, (refl, (refl, (refl, tt))))))))))))))))))))
 
@@ -63,13 +63,13 @@ row-ten first second e o =
     ap heapOf (run-read (spellFile 1 (bothFreed first second)) (bothFreed first second) e refl) ∙ o
 
 given-ten : heapAfter 2 3 ≡ 28672 ∷ 28656 ∷ 0 ∷ 0 ∷ [] → heapAfter 3 2 ≡ 28672 ∷ 28656 ∷ 0 ∷ 0 ∷ [] → ProvedSet
-unfolding outcome putOut readGroups groups readFile objectsFrom setsFrom membersFrom codeFrom spellFile spellAll setsIn holds some meets join classesOf lowestFrom classesBelow colorOf tinted plainPiecesFrom total startOf guarded spanOf newPlace instrumented instrument bytesOf numberAt put fill colorAt everyByte putHeader emptyHeap blockAt sound walkFrom takeBlock firstFit alloc freeIn free placesIn blankMemory step runFrom runs tableRule paintGlobals blankTable firstTable
+unfolding outcome putOut readGroups groups readFile follow many membersPlan spellFile spellAll setsIn holds some meets join classesOf lowestFrom classesBelow colorOf tinted plainPiecesFrom total startOf guarded spanOf newPlace instrumented instrument bytesOf numberAt put fill colorAt everyByte putHeader emptyHeap blockAt sound walkFrom takeBlock firstFit alloc freeIn free placesIn blankMemory step runFrom runs tableRule paintGlobals blankTable firstTable
 given-ten = given-nine-and-ten (row-nine refl refl)
 
 given-last : heapAfter 3 2 ≡ 28672 ∷ 28656 ∷ 0 ∷ 0 ∷ [] → ProvedSet
-unfolding outcome readGroups groups readFile objectsFrom setsFrom membersFrom codeFrom spellFile spellAll setsIn holds some meets join classesOf lowestFrom classesBelow colorOf tinted plainPiecesFrom total startOf guarded spanOf newPlace instrumented instrument bytesOf numberAt put fill colorAt everyByte putHeader emptyHeap blockAt sound walkFrom takeBlock firstFit alloc freeIn free placesIn blankMemory step runFrom runs tableRule paintGlobals blankTable firstTable
+unfolding outcome readGroups groups readFile follow many membersPlan spellFile spellAll setsIn holds some meets join classesOf lowestFrom classesBelow colorOf tinted plainPiecesFrom total startOf guarded spanOf newPlace instrumented instrument bytesOf numberAt put fill colorAt everyByte putHeader emptyHeap blockAt sound walkFrom takeBlock firstFit alloc freeIn free placesIn blankMemory step runFrom runs tableRule paintGlobals blankTable firstTable
 given-last = given-ten (row-ten 2 3 refl refl)
 
 pub proved-set : ProvedSet
-unfolding outcome readGroups groups readFile objectsFrom setsFrom membersFrom codeFrom spellFile spellAll setsIn holds some meets join classesOf lowestFrom classesBelow colorOf tinted plainPiecesFrom total startOf guarded spanOf newPlace instrumented instrument bytesOf numberAt put fill colorAt everyByte putHeader emptyHeap blockAt sound walkFrom takeBlock firstFit alloc freeIn free placesIn blankMemory step runFrom runs tableRule paintGlobals blankTable firstTable
+unfolding outcome readGroups groups readFile follow many membersPlan spellFile spellAll setsIn holds some meets join classesOf lowestFrom classesBelow colorOf tinted plainPiecesFrom total startOf guarded spanOf newPlace instrumented instrument bytesOf numberAt put fill colorAt everyByte putHeader emptyHeap blockAt sound walkFrom takeBlock firstFit alloc freeIn free placesIn blankMemory step runFrom runs tableRule paintGlobals blankTable firstTable
 proved-set = given-last (row-ten 3 2 refl refl)

@@ -5,14 +5,10 @@
 --   Places      listed: a reason gives the number, 1 to 7, and where its place is
 --
 -- What carries them:
---   Plans       reading as a plan: which numbers are asked for, one after the other, and their tests
---   Following   read-by-plan: `readFile` goes by the plan of a file
 --   Numbers     told: a number is read, or the file ends inside one, or an end up to which the bytes are
 --               the beginning of none; begins-none: no number begins with them
 --   Agreeing    files that have the same bytes up to an end
 pub mod Agreeing
 pub mod Numbers
-pub mod Plans
-pub mod Following
 pub mod Refused
 pub mod Places

@@ -22,14 +22,17 @@ use Rattle.numbers.proofs.Laws as numbers
 use Rattle.opcodes.specs.Ranges.{within}
 use Rattle.opcodes.proofs.Bounds.{within-true}
 use Rattle.files.specs.Program.{Program, longest}
-use Rattle.files.specs.Reading.{refusal, judge, judged, Reading, whole, readFile}
+use Rattle.files.specs.Reading.{refusal, judge, judged, Reading, whole, Sort, count, field, refusedWith, Plan, done, ask, on, follow, filePlan, readFile}
+use Rattle.files.proofs.Following.{read-by-plan}
 use Rattle.files.specs.Writing.{goodProgram, spellFile}
 use Rattle.files.proofs.RoundTrip.{good-of, reads-back, one-spelling}
 use Rattle.refusals.specs.Why.{Begins, NoneBegins, part, Why, tooLong, early, noNumber, otherVersion, badField, surplus, RefusedWhy}
 use Rattle.refusals.proofs.Agreeing.{Agrees, agrees-itself, agrees-cut, agrees-begun, agrees-earlier}
 use Rattle.refusals.proofs.Numbers.{Told, told, begins-none}
-use Rattle.refusals.proofs.Plans.{Plan, done, ask, numberOf, number-bounds, on, follow, filePlan}
-use Rattle.refusals.proofs.Following.{read-by-plan}
+
+number-bounds : (sort : Sort) → (5 ≤ refusedWith sort) × (refusedWith sort ≤ 6)
+number-bounds count = omega arith
+number-bounds field = omega arith
 
 -- a number that is read stands in the file as it is spelled
 stands : (file : List ℕ) (at : ℕ) {n : ℕ} {c : Cursor} → readNumber file at ≡ Read.Number n c → part file at (at + width n) ≡ spell n
@@ -126,8 +129,8 @@ module _ (version : ℕ) (small : version < 2 ^ 32) (file : List ℕ) (fits : le
             for e (surplus at p (omega arith) spelled)
     walk (ask sort test next) at inside others =
         let (low, high) = number-bounds sort in
-        asked (numberOf sort) test at (λ other n behind. follow (next n) other behind) inside others
-        (λ n is ends stood none. badField (numberOf sort) at n low high ends stood none)
+        asked (refusedWith sort) test at (λ other n behind. follow (next n) other behind) inside others
+        (λ n is ends stood none. badField (refusedWith sort) at n low high ends stood none)
         (λ n behind ends rest. walk (next n) behind ends rest)
 
 -- a refused file is refused for a reason that its bytes give

@@ -1,10 +1,10 @@
 use mathlib.Core.Path.{sym, _∙_}
 use borrow.Author.Tests.{not-true, not-false, eq-eqb, ne-eqb}
 use Rattle.files.proofs.Judging.{not-read, failed, passed}
-use Rattle.files.specs.Reading.{colorAt}
 use borrow.Author.Needs.{needs}
 use Rattle.files.proofs.fields.color_at.Statement.{statement}
 use Rattle.files.proofs.fields.color_at.Tie as tie
+use Rattle.files.specs.Parsing.{colorAt}
 
 returns : tie.Need-returns
 returns c = simp (ne-eqb _ _ (c .if1 .taken), colorAt)

@@ -1,7 +1,7 @@
 use borrow.Author.Tests.{le-leb, lt-leb}
-use Rattle.files.specs.Inside.{isMember}
 use Rattle.files.proofs.fields.is_member.Statement.{statement}
 use Rattle.files.proofs.fields.is_member.Tie as tie
+use Rattle.files.specs.Reading.{isMember}
 
 returns : tie.Need-returns
 returns c = simp (le-leb _ _ (c .if1 .taken), isMember)

@@ -1,10 +1,10 @@
 use mathlib.Core.Path.{sym, _∙_}
 use borrow.Author.Tests.{not-true, not-false}
 use Rattle.files.proofs.Judging.{not-read, failed, passed}
-use Rattle.files.specs.Reading.{operandAt}
 use borrow.Author.Needs.{needs}
 use Rattle.files.proofs.fields.operand_at.Statement.{statement}
 use Rattle.files.proofs.fields.operand_at.Tie as tie
+use Rattle.files.specs.Parsing.{operandAt}
 
 is-present-requires : tie.Need-is-present-requires
 is-present-requires c κs = search needs

@@ -1,8 +1,8 @@
 use borrow.Author.Tests.{eq-eqb, ne-eqb}
-use Rattle.files.specs.Reading.{sizeAt}
 use borrow.Author.Needs.{needs}
 use Rattle.files.proofs.fields.size_at.Statement.{statement}
 use Rattle.files.proofs.fields.size_at.Tie as tie
+use Rattle.files.specs.Parsing.{sizeAt}
 
 returns : tie.Need-returns
 returns c = simp (ne-eqb _ _ (c .if1 .taken), sizeAt)

@@ -48,7 +48,6 @@ use Rattle.reader.specs.declared.Reader.{Reader}
 use Rattle.reader.proofs.Reader as T
 use Rattle.reader.proofs.Reader.Laws as T′
 use Rattle.reader.proofs.Held.{row, sliceOf, OwnSlice, slice-twice}
-use Rattle.files.specs.Reading.{readInstr}
 use Rattle.opcodes.specs.Ranges.{scopeOver}
 use Rattle.files.specs.Inside.{Small}
 use Rattle.opcodes.specs.declared.Scope.{Scope}
@@ -73,6 +72,7 @@ use Rattle.files.proofs.instructions.instr_at.Key.{name as #files·inst
 use Rattle.files.proofs.instructions.instr_at as instr-at
 use Rattle.files.proofs.instructions.instr_at.Statement as stated
 use Rattle.files.proofs.instructions.instr_at.Code as code
+use Rattle.files.specs.Parsing.{readInstr}
 
 abbrev stayed : Stays (instr-at.ended .signature .params) (instr-at.ended .kept)
 stayed = (stay-none-slice (0 ∷ []) tt (plain (λ _. u8)) yes, (stay-none (λ _. K.the-row) yes, (stay-none-slice (1 ∷ []) tt (plain (λ _. u8)) yes, (stay-none (λ _. Z.the-row) yes, tt))))

@@ -45,7 +45,6 @@ use Rattle.numbers.proofs.Cursor.Laws as K′
 use Rattle.reader.specs.declared.Reader.{Reader}
 use Rattle.reader.proofs.Reader.Laws as T′
 use Rattle.reader.proofs.Held.{row, type, laws, sliceOf, Own, OwnSlice, held-file}
-use Rattle.files.specs.Reading.{readInstr}
 use Rattle.opcodes.specs.Ranges.{scopeOver}
 use Rattle.files.specs.Inside.{Small}
 use Rattle.opcodes.specs.declared.Scope.{Scope}
@@ -62,6 +61,7 @@ use Rattle.files.proofs.instructions.instruction.Key.{name as #files·i
 use Rattle.files.proofs.instructions.instruction as instruction
 use Rattle.files.proofs.instructions.instruction.Statement as stated
 use Rattle.files.proofs.instructions.instruction.Code as code
+use Rattle.files.specs.Parsing.{readInstr}
 
 abbrev stayed : Stays (instruction.ended .signature .params) (instruction.ended .kept)
 stayed = (stay-none (λ κs. row (κs .0, tt)) yes, (stay-none-slice (1 ∷ []) tt (plain (λ _. u8)) yes, (stay-none (λ _. Z.the-row) yes, tt)))

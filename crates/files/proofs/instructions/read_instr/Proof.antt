@@ -8,12 +8,13 @@ use Rattle.opcodes.specs.declared.Instr.{Instr}
 use Rattle.files.specs.declared.InstrRead.{InstrRead}
 use Rattle.opcodes.specs.Table.{rowOf}
 use Rattle.opcodes.specs.Ranges.{Scope, within, lastOpcode, scopeOver}
-use Rattle.files.specs.Reading.{judged, operandAt}
+use Rattle.files.specs.Reading.{judged}
 use Rattle.files.specs.Inside.{whyRead}
 use Rattle.files.proofs.OneInstr.{no-opcode, no-first, no-second, no-third, an-instr, operand-fits}
 use borrow.Author.Needs.{needs}
 use Rattle.files.proofs.instructions.read_instr.Statement.{statement}
 use Rattle.files.proofs.instructions.read_instr.Tie as tie
+use Rattle.files.specs.Parsing.{operandAt}
 
 last-opcode-requires : tie.Need-last-opcode-requires
 last-opcode-requires c κs = search needs

@@ -4,12 +4,12 @@ use native.Mathlib.Omega.{arith}
 use Rattle.numbers.proofs.Laws.{read-bounds}
 use Rattle.files.specs.declared.sets.SetRead.{SetRead}
 use Rattle.opcodes.specs.Ranges.{within}
-use Rattle.files.specs.Reading.{afterMemberCount}
 use Rattle.files.specs.Inside.{whyRead}
 use Rattle.files.proofs.Judging.{good}
 use borrow.Author.Needs.{needs}
 use Rattle.files.proofs.sets.read_set.Statement.{statement}
 use Rattle.files.proofs.sets.read_set.Tie as tie
+use Rattle.files.specs.Parsing.{afterMemberCount}
 
 cast-ranged : tie.Need-cast-ranged
 cast-ranged c = search needs

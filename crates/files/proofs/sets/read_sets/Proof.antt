@@ -4,13 +4,13 @@ use denote.Ref.{now}
 use native.Mathlib.Omega.{arith}
 use borrow.Author.Needs.{needs}
 use Rattle.files.specs.declared.Ended.{Ended}
-use Rattle.files.specs.Reading.{readSet}
 use Rattle.files.specs.Inside.{whySet}
 use Rattle.files.proofs.Parts.{ASet, a-set, no-set}
 use Rattle.files.proofs.MemberLoop.{set-bounds}
 use Rattle.files.proofs.SetLoop.{Gathering, start, roomy, more, stops, finishes}
 use Rattle.files.proofs.sets.read_sets.Statement.{statement}
 use Rattle.files.proofs.sets.read_sets.Tie as tie
+use Rattle.files.specs.Parsing.{readSet}
 
 abbrev Inv-loop : tie.InvT-loop
 Inv-loop file objects count ends₀ members₀ place₀ next₀ i₀ ends members place next i = Gathering objects count file (next₀ .at) ends members place (next .at) i

@@ -1,24 +1,52 @@
--- `readFile` goes by the plan of a file. Each reader of specs/Reading has a law of the same form: to follow
--- its plan is to read with it and to go on with what it answers. The law of a sequence is one for objects,
--- sets and instructions. A stage's law is one step by cases on the answer of the stage before it.
+-- Reading part after part is reading by the plan. Each reader of specs/Parsing has a law of the same form: to
+-- follow its plan is to read with it and to go on with what it answers. The law of a sequence is one for
+-- objects, sets and instructions. A stage's law is one step by cases on the answer of the stage before it.
 use Prim.Native.Nat.{ℕ, zero, suc, _+_, _≤_}
 use mathlib.Core.Path.{_≡_, refl, sym, ap, _∙_}
 use mathlib.Core.List.{List, [], _∷_, _++_}
 use mathlib.Core.Bool.{Bool, true, false}
 use lib.ListN.{length}
-use lib.Dec.{ltb, leb, eqb}
+use lib.Dec.{eqb}
 use borrow.Author.Tests.{le-leb}
 use Rattle.numbers.specs.declared.Read.{Read}
 use Rattle.opcodes.specs.declared.Operand.{Operand}
 use Rattle.opcodes.specs.declared.Instr.{Instr}
 use Rattle.opcodes.specs.Table.{rowOf, make}
 use Rattle.opcodes.specs.Ranges.{Scope, hasSets, lastOpcode, within, isColor, present, allowed}
 use Rattle.files.specs.declared.Object.{Object}
 use Rattle.files.specs.declared.ObjectRead.{ObjectRead}
 use Rattle.files.specs.declared.InstrRead.{InstrRead}
-use Rattle.files.specs.Program.{hasColors, mostCode, longest}
-use Rattle.files.specs.Reading.{Parsed, got, cursor, judged, afterColor, colorAt, afterSize, sizeAt, afterKind, readObject, objectsFrom, membersFrom, afterMemberCount, readSet, setsFrom, operandAt, afterThird, afterSecond, afterFirst, afterOpcode, readInstr, codeFrom, Reading, afterCode, afterCodeCount, afterSets, afterSetCount, afterObjects, afterObjectCount, afterVersion, readFile}
-use Rattle.refusals.proofs.Plans.{Plan, done, on, after, follow, maybe, many, colorPlan, sizePlan, objectPlan, membersPlan, setPlan, setsPlan, operandPlan, thirdPlan, secondPlan, firstPlan, instrPlan, scopeFor, codePlan, objectsPlan, filePlan}
+use Rattle.files.specs.Program.{hasColors, mostCode, longest, kindsOf}
+use Rattle.files.specs.Reading.{Reading, judged, Plan, done, on, follow, maybe, many, objectPlan, isMember, membersPlan, setPlan, setsPlan, operandPlan, instrPlan, codePlan, filePlan, readFile}
+use Rattle.files.specs.Parsing.{Parsed, got, cursor, afterColor, colorAt, afterSize, sizeAt, afterKind, readObject, objectsFrom, membersFrom, afterMemberCount, readSet, setsFrom, operandAt, afterThird, afterSecond, afterFirst, afterOpcode, readInstr, codeFrom, afterCode, afterCodeCount, afterSets, afterSetCount, afterObjects, afterObjectCount, afterVersion}
+
+-- what becomes of a part that was read
+abbrev after : {A : Type 0} → Parsed A → (A → ℕ → Reading) → Reading
+after (got x next) f = f x next
+after (Parsed.refused q) f = Reading.refused q
+
+-- the plans of an object and of an instruction, from their second number on
+abbrev colorPlan : (version kind size : ℕ) → (Object → Plan) → Plan
+colorPlan version kind size k = maybe (hasColors version) isColor λ color. k (record { kind = kind; size = size; color = color })
+
+abbrev sizePlan : (version kind : ℕ) → (Object → Plan) → Plan
+sizePlan version kind k = maybe (eqb kind 0) (within 1 4096) λ size. colorPlan version kind size k
+
+abbrev thirdPlan : Scope → (op x y : ℕ) → (Instr → Plan) → Plan
+thirdPlan scope op x y k = operandPlan scope (rowOf op .third) λ z. k (make op x y z)
+
+abbrev secondPlan : Scope → (op x : ℕ) → (Instr → Plan) → Plan
+secondPlan scope op x k = operandPlan scope (rowOf op .second) λ y. thirdPlan scope op x y k
+
+abbrev firstPlan : Scope → (op : ℕ) → (Instr → Plan) → Plan
+firstPlan scope op k = operandPlan scope (rowOf op .first) λ x. secondPlan scope op x k
+
+-- what follows the objects
+abbrev objectsPlan : (version : ℕ) → List Object → Plan
+objectsPlan version os = setsPlan (hasSets version) (length os) λ ss. codePlan version os ss
+
+abbrev scopeFor : (version : ℕ) → List Object → List (List ℕ) → (code : ℕ) → Scope
+scopeFor version os ss n = record { version = version; kinds = kindsOf os; sets = length ss; code = n }
 
 -- what a thing's reader answers
 abbrev object : ObjectRead → Parsed Object
@@ -102,7 +130,7 @@ module _ (file : List ℕ) where
     unfolding follow membersPlan membersFrom
     follow-members zero low ns at = refl
     follow-members (suc left) low ns at =
-        go (judged 6 (λ n. elim (leb low n) [ true ↦ ltb n objects | false ↦ false ]) file at) (λ n behind. follow-members left (n + 1) (ns ++ n ∷ []) behind)
+        go (judged 6 (isMember objects low) file at) (λ n behind. follow-members left (n + 1) (ns ++ n ∷ []) behind)
       where
         go : (r : Read)
             → ((n behind : ℕ) → follow (membersPlan left objects (n + 1) (ns ++ n ∷ []) k) file behind ≡ after (membersFrom left objects file behind (n + 1) (ns ++ n ∷ [])) (λ set behind. follow (k set) file behind))
@@ -231,4 +259,8 @@ module _ (file : List ℕ) where
     pub read-by-plan : length file ≤ longest version
         → readFile version file ≡ on (judged 4 (within version version) file 0) (λ n behind. follow (filePlan version) file behind)
     unfolding readFile
-    read-by-plan fits = rw (le-leb (length file) (longest version) fits, readFile) (sym (versioned (judged 4 (within version version) file 0)))
+    read-by-plan fits = rw (le-leb (length file) (longest version) fits, readFile)
+
+    -- which is part after part
+    pub read-by-parts : length file ≤ longest version → readFile version file ≡ afterVersion version file (judged 4 (within version version) file 0)
+    read-by-parts fits = read-by-plan fits ∙ versioned (judged 4 (within version version) file 0)
