@@ -1,4 +1,4 @@
--- 01, "Safe stores, classes, colors": what an instruction is to the coloring.
+-- What an instruction is to the coloring, as the contract of `nature` says it; no demand cites it.
 use Prim.Native.Nat.{ℕ}
 use mathlib.Core.Bool.{true, false}
 use mathlib.Core.List.{List}

@@ -1,4 +1,4 @@
--- Arrays that are filled from the front: laws for any length, so that no long list is ever computed. Assumes nothing.
+-- Arrays that are filled from the front: laws for any length, so that no long list is ever computed.
 use mathlib.Core.Path.{_≡_, refl, sym, ap, _∙_}
 use mathlib.Core.List.{List, [], _∷_, _++_, map, map-append, append-assoc, append-nil}
 use Prim.Native.Nat.{ℕ, zero, suc, _+_, _-_, _<_, _≤_}

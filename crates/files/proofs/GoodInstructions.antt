@@ -1,5 +1,5 @@
 -- What a good instruction of version 1 names, over its view: objects of their kinds, sets and places that are there, and
--- no check. Assumes nothing.
+-- no check.
 use Prim.Native.Nat.{ℕ, _<_}
 use mathlib.Core.Path.{_≡_, refl, sym, _∙_}
 use mathlib.Core.Bool.{true}

@@ -1,4 +1,4 @@
--- What judging a number answers: the refusal of its reading, a refusal of its own, or the number. Assumes nothing.
+-- What judging a number answers: the refusal of its reading, a refusal of its own, or the number.
 use mathlib.Core.Path.{_≡_, refl, sym, ap, ap₂, _∙_}
 use mathlib.Core.List.{List, _++_}
 use mathlib.Core.Bool.{Bool, true, false}

@@ -1,5 +1,5 @@
 -- The loop over a set's members: what is left to read from here answers what the whole reading does, and the room
--- holds what is done. A member takes a byte of the file at least. Assumes nothing.
+-- holds what is done. A member takes a byte of the file at least.
 use mathlib.Core.Path.{_≡_, refl, sym, ap, _∙_}
 use mathlib.Core.List.{List, [], _∷_, _++_}
 use mathlib.Core.Bool.{Bool, true, false}

@@ -1,4 +1,4 @@
--- Reading one instruction, step by step, and what is known of its operands. Assumes nothing.
+-- Reading one instruction, step by step, and what is known of its operands.
 use mathlib.Core.Path.{_≡_, ap, _∙_}
 use mathlib.Core.List.{List}
 use mathlib.Core.Bool.{Bool, true, false}

@@ -1,4 +1,4 @@
--- Reading one object, step by step. Assumes nothing.
+-- Reading one object, step by step.
 use mathlib.Core.Path.{_≡_, ap, _∙_}
 use mathlib.Core.List.{List}
 use Prim.Native.Nat.{ℕ}

@@ -1,4 +1,4 @@
--- What a part's answer says of the reading that it stands for. Assumes nothing.
+-- What a part's answer says of the reading that it stands for.
 use mathlib.Core.Path.{_≡_, ap}
 use mathlib.Core.List.{List}
 use Prim.Native.Nat.{ℕ, _+_}

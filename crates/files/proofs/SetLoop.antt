@@ -1,5 +1,5 @@
 -- The loop over sets: what is left to read from here answers what the whole reading does, and the arrays hold what
--- is done. All members together are no more than the bytes read. Assumes nothing.
+-- is done. All members together are no more than the bytes read.
 use mathlib.Core.Path.{_≡_, refl, sym, ap, _∙_}
 use mathlib.Core.List.{List, [], _∷_, _++_, append-assoc, append-nil}
 use Prim.Native.Nat.{ℕ, suc, _+_, _-_, _<_, _≤_}

@@ -1,5 +1,4 @@
 -- The whole file, part by part: each part that was read leads to the next, and the first refusal is the file's.
--- Assumes nothing.
 use mathlib.Core.Path.{_≡_, refl, sym, ap, ap₂, _∙_}
 use mathlib.Core.List.{List}
 use mathlib.Core.Bool.{Bool, true, false}

@@ -1,4 +1,4 @@
--- Lists of what a function gives for one number after the other (`tabulate`). Assumes nothing.
+-- Lists of what a function gives for one number after the other (`tabulate`).
 use Prim.Native.Nat.{ℕ, zero, suc, _+_, _-_, _<_, _≤_}
 use mathlib.Core.Path.{_≡_, refl, ap, _∙_}
 use mathlib.Core.List.{List, [], _∷_, _++_, map}

@@ -1,4 +1,4 @@
--- Tests: one, two at once (`both`), and one that each element of a list passes (`every`). Assumes nothing.
+-- Tests: one, two at once (`both`), and one that each element of a list passes (`every`).
 use Prim.Native.Nat.{ℕ, zero, suc, _<_}
 use mathlib.Core.Path.{_≡_, refl, sym, _∙_}
 use mathlib.Core.List.{List, [], _∷_, _++_}

@@ -1,4 +1,5 @@
--- How a program is held in arrays: the elements that count come first, and the others are blank.
+-- How a program is held in arrays: the elements that count come first, and the others are blank. These are
+-- words of the contracts of functions that hold a program; no demand cites them.
 use Prim.Native.Nat.{ℕ, _+_, _-_}
 use mathlib.Core.List.{List, [], _∷_, _++_, map}
 use mathlib.Core.Bool.{Bool, true, false}

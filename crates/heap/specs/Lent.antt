@@ -1,5 +1,6 @@
--- What the functions answer for lent memory and table of any length, and what both hold afterwards. At
--- their exact lengths this reads as Memory and Heap say; of another length they are left as they are.
+-- What the functions of the heap answer for lent memory and table of any length, and what both hold afterwards.
+-- At their exact lengths this reads as Memory and Heap say; of another length they are left as they are. These
+-- are words of contracts; no demand cites them.
 use Prim.Native.Nat.{ℕ, _+_}
 use mathlib.Core.List.{List, [], _∷_}
 use mathlib.Core.Bool.{Bool, true, false}

@@ -1,4 +1,4 @@
--- What the crates above may use of numbers: laws on the definitions of specs/Number.antt. Assumes nothing.
+-- What the crates above may use of numbers: laws on the definitions of specs/Number.antt.
 use mathlib.Core.Path.{_≡_, refl, sym, ap, _∙_}
 use mathlib.Core.List.{List, _++_, append-assoc}
 use mathlib.Core.Logic.{_⊎_}

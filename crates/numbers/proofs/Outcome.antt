@@ -1,6 +1,6 @@
 -- Reading and spelling are one. A reading ends in refusal 2 or 3, or it finds a number's spelling (`outcome`, by
 -- induction on the groups that may still come, with the steps of `Reading`); and where a spelling stands, the
--- reading answers its number (`reads`, by the same induction). Assumes nothing.
+-- reading answers its number (`reads`, by the same induction).
 use mathlib.Core.Path.{_≡_, refl, sym, ap, ap₂, _∙_}
 use mathlib.Core.List.{List, _∷_, _++_}
 use mathlib.Core.Logic.{_⊎_, inl, inr}

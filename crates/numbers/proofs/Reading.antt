@@ -1,5 +1,5 @@
 -- Reading a number, turn by turn: where a reading stands after i groups, and what its next turn answers.
--- The loop of `read_number` and the laws on reading go by the same six steps. Assumes nothing.
+-- The loop of `read_number` and the laws on reading go by the same six steps.
 use mathlib.Core.Path.{_≡_, refl, ap, _∙_}
 use mathlib.Core.List.{List}
 use mathlib.Core.Bool.{true, false}

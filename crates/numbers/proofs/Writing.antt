@@ -1,5 +1,4 @@
 -- Writing a number, turn by turn: where a writing stands before its next group, and what a turn does.
--- Assumes nothing.
 use mathlib.Core.Path.{_≡_, refl, _∙_}
 use mathlib.Core.List.{List}
 use Prim.Native.Nat.{ℕ, _+_, _/_, _%_, _^_, _<_, _≤_}

@@ -1,4 +1,4 @@
--- Measuring a program: what is good has a length, part by part. Assumes nothing.
+-- Measuring a program: what is good has a length, part by part.
 use mathlib.Core.Path.{_≡_, refl, ap, _∙_}
 use mathlib.Core.List.{List, [], _∷_, _++_}
 use mathlib.Core.Bool.{Bool, true, false}

@@ -1,4 +1,4 @@
--- Bytes put into a room from a place on, one run after the other. Assumes nothing.
+-- Bytes put into a room from a place on, one run after the other.
 use mathlib.Core.Path.{_≡_, refl, sym, ap, _∙_}
 use mathlib.Core.List.{List, [], _∷_, _++_, append-nil}
 use Prim.Native.Nat.{ℕ, _+_, _-_, _≤_}

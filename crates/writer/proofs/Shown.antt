@@ -1,4 +1,4 @@
--- The program that arrays show, as the measuring pass judges it. Assumes nothing.
+-- The program that arrays show, as the measuring pass judges it.
 use mathlib.Core.Path.{_≡_, refl, sym, ap, ap₂, _∙_}
 use mathlib.Core.List.{List, [], _∷_, _++_}
 use mathlib.Core.Bool.{Bool, true, false}

@@ -1,5 +1,4 @@
 -- `numbers::followed` meets its contract: a group is below 128, so that setting the top bit adds 128.
--- Assumes nothing.
 use mathlib.Core.Path.{_∙_}
 use native.Mathlib.Nat.{add-comm}
 use native.Mathlib.Omega.{arith}

@@ -1,4 +1,4 @@
--- `numbers::is_shortest` meets its contract: the branch is the definition's test. Assumes nothing.
+-- `numbers::is_shortest` meets its contract: the branch is the definition's test.
 use borrow.Author.Tests.{eq-eqb, ne-eqb}
 use Rattle.numbers.specs.Number.{shortest}
 use Rattle.numbers.proofs.is_shortest.Statement.{statement}

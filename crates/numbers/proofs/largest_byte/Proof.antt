@@ -1,4 +1,4 @@
--- `numbers::largest_byte` meets its contract: the branch is the definition's test. Assumes nothing.
+-- `numbers::largest_byte` meets its contract: the branch is the definition's test.
 use borrow.Author.Tests.{lt-ltb, le-ltb}
 use Rattle.numbers.specs.Number.{largest}
 use Rattle.numbers.proofs.largest_byte.Statement.{statement}

@@ -1,4 +1,4 @@
--- `numbers::low_group` meets its contract: a mask of seven ones is a remainder by 128. Assumes nothing.
+-- `numbers::low_group` meets its contract: a mask of seven ones is a remainder by 128.
 use lib.Bits.{and-mask}
 use Rattle.numbers.proofs.low_group.Statement.{statement}
 use Rattle.numbers.proofs.low_group.Tie as tie

@@ -1,5 +1,5 @@
 -- `numbers::number_width` meets its contract. The invariant: the bytes counted, the last of them not yet
--- passed, and the width of what is left make the width and one. Assumes nothing.
+-- passed, and the width of what is left make the width and one.
 use mathlib.Core.Path.{_≡_}
 use Prim.Native.Nat.{_+_, _<_, _^_}
 use native.Mathlib.Omega.{arith}

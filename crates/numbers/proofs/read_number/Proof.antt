@@ -1,6 +1,6 @@
 -- `numbers::read_number` meets its contract. The invariant is a `Reading`: what is left to read answers what the
 -- whole reading does. Each way out of a turn, and the turn to the next group, is one of its steps; the measure
--- is the groups that may still come. Assumes nothing.
+-- is the groups that may still come.
 use mathlib.Core.Path.{sym, ap, _∙_}
 use Prim.Native.Nat.{ℕ, _+_, _-_, _≤_}
 use native.Mathlib.Omega.{arith}

@@ -1,5 +1,5 @@
 -- `numbers::write_number` meets its contract. The invariant is a `Writing`: what is left to write leaves what the
--- whole writing does; the measure is the number that is left. Assumes nothing.
+-- whole writing does; the measure is the number that is left.
 use mathlib.Core.Path.{sym, ap, _∙_}
 use mathlib.Core.Logic.{⊎-elim}
 use Prim.Native.Nat.{_+_, _<_}
