@@ -5,7 +5,7 @@
 --
 -- About the definitions, for the crates above:
 --   a file of version 2 can say it: 2,000 instructions, 32,768 bytes  `instrumented-good` in `Instrumenting`
---   what is written reads back as exactly that code, never 9 again    `instrument-reads-back` in `ReadsBack`
+--   what is written reads back as exactly that code, never 9 again    `wrote`, `new-file-reads`, `fits-again` in `ReadsBack`
 --   each answer has its reason, and each reason its answer            `answered-because`, `answers` in `Answers`
 --
 -- How the code comes to it: one instruction's check and copy (`Cases`); the two passes over the code,

@@ -1,6 +1,5 @@
--- What is proved of the definitions: demands 1 and 3, the heap's account, and that instrumented code
--- never meets 35 or 38. No code is involved here; that the code does what the definitions say is proved
--- in the crates below.
+-- What is proved of the definitions: the statements of specs/Demands, each by a theorem of its type. No code is
+-- involved here; that the code does what the definitions say is proved in the crates below.
 --
 --   Stopping    every-run-stops: a run comes to a stop within its limit; stops-once: in one way alone
 --   Same        same-run, never-outside: the theorem of demand 3, which only composes
@@ -8,6 +7,8 @@
 --   Untouched   headers-kept, unowned-kept: a store changes no header, no guard, no free body
 --   Exactly     check-passes-exactly: a check passes where the plain rule lets its store through
 --   Itself      guards-itself: version 2 of an accepted routine guards it
+--   Classes     class-is-chain, coloring-is-legal, none-finer, one-coloring, reads-back, files-read-back
+--   Answering   refused-only-for, accepted-is-written, run-is-answered: every file has its answer
 --
 -- What carries them:
 --   Lockstep    one step of the routine is one step of version 2, or a check and its store
@@ -24,6 +25,8 @@
 --   Aims        what a store of an accepted routine aims at
 --   Good        what an accepted routine's instructions may name
 --   Recorded    recording the live bodies changes no run
+--   Halting     a run never stops for a refusal
+--   HeapHeaders, HeapBlocks, HeapAlloc, HeapFree   what ALLOC and FREE do to a heap that is a list of blocks
 pub mod HeapHeaders
 pub mod HeapBlocks
 pub mod HeapAlloc
