@@ -16,6 +16,20 @@ use Rattle.machine.specs.State.{Rule, Given, State, temp, addressOf}
 use Rattle.machine.specs.Step.{Effect, stops, passes, completes, Next, stop, next, conclude, allocating, freeing, actEffect, effect, lets, perform, step, widthOf}
 use Rattle.machine.specs.Runs.{stopped, runFrom}
 
+-- a reason that is no refusal
+abbrev pub Halt : Reason → Type 0
+Halt Reason.Finished = Unit {0}
+Halt Reason.PastEnd = Unit {0}
+Halt Reason.LimitUsed = Unit {0}
+Halt Reason.NoInput = Unit {0}
+Halt Reason.NoRoom = Unit {0}
+Halt Reason.ReadOutside = Unit {0}
+Halt Reason.StoreOutside = Unit {0}
+Halt Reason.Forbidden = Unit {0}
+Halt Reason.BadFree = Unit {0}
+Halt Reason.Unsound = Unit {0}
+Halt (Reason.Refused q) = ⊥
+
 module _ {S : Type 0} (rule : Rule S) (given : Given) where
   -- ---- one turn of a run
 
@@ -32,14 +46,14 @@ module _ {S : Type 0} (rule : Rule S) (given : Given) where
   -- ---- a turn goes forward
 
   module _ (state : State S) where
-    -- no number out is lost
+    -- what stops is no refusal, and no number out is lost
     abbrev Keeps : Effect S → Type 0
-    Keeps (stops reason) = Unit {0}
+    Keeps (stops reason) = Halt reason
     Keeps passes = Unit {0}
     Keeps (completes temps memory outs taken own) = length (state .outs) ≤ length outs
 
     abbrev pub Forth : Next S → Type 0
-    Forth (stop reason) = Unit {0}
+    Forth (stop reason) = Halt reason
     Forth (next after) =
         ((after .steps ≡ state .steps + 1) ⊎ ((after .steps ≡ state .steps) × (after .at ≡ state .at + 1)))
         × (length (state .outs) ≤ length (after .outs))
@@ -85,7 +99,7 @@ module _ {S : Type 0} (rule : Rule S) (given : Given) where
     keeps (check aim c) = tt
 
     concluded : (v : View) (e : Effect S) → Keeps e → Forth (conclude rule given state v e)
-    concluded v (stops reason) k = tt
+    concluded v (stops reason) k = k
     concluded v passes k = (inr (refl, refl), same)
     concluded v (completes temps memory outs taken own) k = (inl refl, k)
 
