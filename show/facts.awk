@@ -2,7 +2,8 @@
 # memory and of unsafe stores.
 #
 # memory: from[r], bytes[r], color[r], kind[r] (nothing, object, guard, unused, header, heap, end), who[r].
-# stores: instruction[s], store[s] (its name), painted[s] (the color of its check), listed[s] (its objects).
+# stores: instruction[s], store[s] (its name), painted[s] (the color of its check), listed[s] (its objects);
+# name_at[p] is the name of the instruction at place p. A run: reason, stopped_at, steps, words.
 
 function add(first, size, hue, what, object) {
     if (size <= 0) return
@@ -60,6 +61,7 @@ function list_stores(    i, place, is_checked, own) {
             held = part[1] ~ /PUT/ ? part[4] : part[3]
             continue
         }
+        name_at[place] = part[1]
         if (part[1] ~ /^(PUT|WRITE)/ && (is_checked || part[1] ~ /^WRITE/)) {
             instruction[stores] = place
             store[stores] = part[1]
@@ -107,4 +109,13 @@ $1 == "code" {
     sub(/^ +/, "")
     code[n] = $0
     lines = n + 1
+}
+$1 == "run" {
+    reason = $2
+    stopped_at = $3
+    steps = $4
+}
+$1 == "words" {
+    $1 = ""
+    words = substr($0, 2)
 }
