@@ -118,6 +118,7 @@ echo kept >"$work/old"
 PATH="$work/bin:$PATH" try ./wit instrument "$a" -o "$work/old"
 same 'OUT after a write that failed' 'kept (status 3)' "$(cat "$work/old") (status $status)"
 says 'a write that failed' "wit: $work/old cannot be written, and is as it was"
+same 'nothing is left behind by it' '' "$(find "$work" -maxdepth 1 -name '.wit.*')"
 mkdir "$work/disk"
 if mount -t tmpfs -o size=4k none "$work/disk" 2>/dev/null; then
     { numbers 1 0 0 1000 && for _ in $(seq 1000); do numbers 1 0 4294967295; done; } >"$work/long"
@@ -127,6 +128,17 @@ if mount -t tmpfs -o size=4k none "$work/disk" 2>/dev/null; then
 else
     echo 'tests/odd.sh: no disk could be mounted here, so a full one was only imitated'
 fi
+
+echo 'tests/odd.sh: a clone and a folder for drafts elsewhere'
+copy_clone "$work/a clone"
+try "$work/a clone/wit" run "$a"
+ends 'a clone with a blank in its name' 0 "$line"
+ln -s "$work/a clone/wit" "$work/command"
+try "$work/command" show "$a"
+same 'the command by a link' "$(./wit show "$a")" "$out"
+TMPDIR=$work/nowhere try ./wit show "$a"
+ends 'no folder for drafts' 3 ''
+says 'no folder for drafts' "wit: no temporary folder can be made in $work/nowhere"
 
 echo 'tests/odd.sh: folders that cannot be entered'
 mkdir -p "$work/closed/in"

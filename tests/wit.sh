@@ -179,6 +179,15 @@ for word in list set place step class color guard extent; do
 done
 same 'words: columns' '' "$(./wit words | awk 'length > 80')"
 same 'the version' "toltjebrim $(cat VERSION)" "$(./wit --version)"
+# README's samples: a line `    $ ./wit ..` and below it what it prints and says.
+while IFS= read -r command; do
+    # shellcheck disable=SC2086
+    same "the sample of README: $command" "$(awk -v c="    \$ $command" '
+        on && !/^    [^$]/ { exit }
+        on { print substr($0, 5) }
+        $0 == c { on = 1 }' README.md)" "$($command 2>&1)"
+done <<<"$(sed -n 's/^    \$ //p' README.md)"
+same 'README has samples' 2 "$(grep -c '^    \$ ./wit ' README.md)"
 same 'the changelog has the version' 1 "$(grep -c "^## $(cat VERSION)" CHANGELOG.md)"
 
 close
