@@ -77,6 +77,7 @@ says() { # WHAT PATTERN: one line of our own
     # shellcheck disable=SC2053
     if [[ $said == $2 ]]; then pass; else same "$1" "$2" "$said"; fi
     same "$1: lines" 1 "$(printf '%s\n' "$said" | wc -l | tr -d ' ')"
+    same "$1: columns" '' "$(awk 'length > 80' "$work/said" | grep -v -F -e "$work")"
 }
 
 echo 'tests/build.sh: nothing is built twice'
@@ -114,13 +115,13 @@ echo 'tests/build.sh: what is never used'
 fresh
 run failing
 ends 'a program whose check failed' 3 '' 1
-says 'a program whose check failed' 'wit: run_routine is not used: rt check did not pass (target/wit/run_routine.log)'
+says 'a program whose check failed' 'wit: run_routine is not used: rt check failed (target/wit/log)'
 same 'it was linked all the same' yes "$([ -x "$work/clone/target/bin/run_routine" ] && echo yes)"
 run failing
 ends 'the second time' 3 '' 2
 run failing "$without_rt"
 ends 'and without rt' 3 '' 2
-says 'and without rt' "wit: run_routine is not built, and rt (Rattle's toolchain) is not on the PATH"
+says 'and without rt' "wit: run_routine is not built, and rt (of Rattle) is not on the PATH"
 run quick
 ends 'once its check passes' 0 "$line" 3
 echo '// another line' >>"$work/clone/crates/numbers/src/lib.rt"
@@ -172,6 +173,6 @@ ends 'what is built there is used' 0 "$line" 1
 fresh
 run quick "$without_rt"
 ends 'no rt at the first use' 3 '' 0
-says 'no rt at the first use' "wit: run_routine is not built, and rt (Rattle's toolchain) is not on the PATH"
+says 'no rt at the first use' "wit: run_routine is not built, and rt (of Rattle) is not on the PATH"
 
 close

@@ -17,7 +17,7 @@ wit() { # WHAT STATUS OUT SAID WORDS..: SAID is a pattern for all of standard er
     same "$what: standard output" "$out" "$(cat "$work/out")"
     heard=$(sed 's/^     *//' "$work/said" | tr '\n' ' ') # what is folded, in one line
     heard=${heard% }
-    same "$what: columns" '' "$(awk 'length > 80' "$work/said" | grep -v -F -e "$work" -e '(./wit help')"
+    same "$what: columns" '' "$(awk 'length > 80' "$work/said" | grep -v -F -e "$work")"
     # shellcheck disable=SC2053
     if [[ $heard == $said ]]; then pass; else same "$what: standard error" "$said" "$heard"; fi
 }
@@ -25,7 +25,7 @@ wit() { # WHAT STATUS OUT SAID WORDS..: SAID is a pattern for all of standard er
 mistake() { # WHAT SAID WORDS..: one line on standard error, status 2
     local what=$1 said=$2
     shift 2
-    wit "$what" 2 '' "wit: $said (./wit help says more)" "$@"
+    wit "$what" 2 '' "wit: $said (./wit help)" "$@"
     same "$what: lines" 1 "$(wc -l <"$work/said" | tr -d ' ')"
 }
 
@@ -124,8 +124,8 @@ cp "$a" "$work/<b>&.routine"
 same 'a name that is no markup' 1 "$(grep -c '<title>&lt;b&gt;&amp;.routine</title>' "$work/odd.html")"
 
 echo 'tests/wit.sh: mistakes in use'
-mistake 'nothing to do' 'say what to do: run, instrument, show, run2, explain, words, build or help'
-mistake 'no such command' "'jog' is not a command: say run, instrument, show, run2, explain, words, build or help" jog
+mistake 'nothing to do' 'say what to do'
+mistake 'no such command' "'jog' is not a command" jog
 mistake 'build with a word behind it' 'build wants nothing behind it' build run
 mistake 'run with no file' 'run wants a file, and then its inputs' run
 mistake 'run with two files' "the input '$a' is no decimal number" run "$a" "$a"
@@ -133,13 +133,13 @@ mistake 'an option that is not there' 'run knows no --fast' run "$a" --fast
 mistake 'an option of another command' 'show knows no --strict' show "$a" --strict
 mistake 'a limit that is no number' "the limit 'x' is no decimal number" run "$a" --limit x
 mistake 'no limit behind --limit' 'run wants a number after --limit' run "$a" --limit
-mistake 'a limit that is too large' 'the limit 4294967296 is above 4294967295, or too long' run "$a" --limit 4294967296
-mistake 'a room that is too large' 'the room 65537 is above 65536, or too long' run "$a" --room 65537
-mistake 'show with an input and no picture' 'show wants one file; inputs, --limit and --room go with --html' show "$a" 1
+mistake 'a limit that is too large' 'the limit 4294967296 is above 4294967295' run "$a" --limit 4294967296
+mistake 'a room that is too large' 'the room 65537 is above 65536' run "$a" --room 65537
+mistake 'show with an input and no picture' 'inputs, --limit and --room go with --html' show "$a" 1
 mistake 'a picture over the file' "$work/adds is the file itself" show "$work/adds" --html "$work/adds"
 mistake 'explain of what is no number' '12 is no refusal (1 to 11) and no stop (0, 30 to 38)' explain 12
 mistake 'explain of nothing' 'explain wants a number: 0 to 11 or 30 to 38' explain
-mistake 'help of no command' "'jog' is not a command: say run, instrument, show, run2, explain, words, build or help" help jog
+mistake 'help of no command' "'jog' is not a command" help jog
 mistake 'run of a file that is not there' 'nowhere: there is no such file' run nowhere
 mistake 'run of a folder' 'examples is not a file' run examples
 mistake 'show with no file' 'show wants one file' show
@@ -151,9 +151,10 @@ mistake 'instrument where nothing can be written' "$work/nowhere/a2 cannot be wr
 mistake 'run2 with no file' 'run2 wants a file, and then its inputs' run2
 mistake 'an input that is no number' "the input '7x' is no decimal number" run2 "$work/adds" 7x
 mistake 'an input that is negative' "the input '-1' is no decimal number" run2 "$work/adds" -1
-mistake 'an input that is too large' 'the input 4294967296 is above 4294967295, or too long' run2 "$work/adds" 4294967296
-mistake 'an input that is far too large' 'the input 18446744073709551617 is above 4294967295, or too long' \
+mistake 'an input that is too large' 'the input 4294967296 is above 4294967295' run2 "$work/adds" 4294967296
+mistake 'an input that is far too large' 'the input 18446744073709551617 is above 4294967295' \
     run2 "$work/adds" 18446744073709551617
+mistake 'an input that is too long' 'the input has more than 64 digits' run2 "$work/adds" "$(printf '%065d' 7)"
 mistake 'too many inputs' 'at most 1000 inputs can be given' run2 "$work/adds" $(seq 1001)
 
 echo 'tests/wit.sh: help, numbers and words, in 80 columns'
