@@ -80,22 +80,24 @@ function draw_store(s,    n, i, g, object, aim, is_stop) {
     }
     box(store[s] " at instruction " instruction[s], \
         painted[s] == "-" ? "no check: may write anything" : "color " painted[s] ", may write " (n ? (n == 1 ? "object " : "objects ") shortened(listed[s]) : "nothing"), \
-        paint(painted[s]), is_stop)
+        paint(painted[s]), is_stop, "may write" (n ? listed[s] : " nothing"))
 }
 
 function shortened(list) {
     sub(/^ /, "", list)
-    return length(list) > 22 ? substr(list, 1, 20) ".." : list
+    return length(list) > 30 ? substr(list, 1, 28) ".." : list
 }
 
-function box(head, below, hue, is_stop) {
-    printf "<rect x=\"%d\" y=\"%d\" width=\"360\" height=\"48\" rx=\"4\" fill=\"%s\" stroke=\"%s\" stroke-width=\"%d\"/>\n", \
-        RIGHT, y, hue, is_stop ? "#c00000" : "#666", is_stop ? 4 : 1
+# A box with two lines, and a third one in red where the run stopped. What is cut shows under the pointer.
+function box(head, below, hue, is_stop, whole) {
+    printf "<rect x=\"%d\" y=\"%d\" width=\"360\" height=\"%d\" rx=\"4\" fill=\"%s\" stroke=\"%s\" stroke-width=\"%d\"><title>%s</title></rect>\n", \
+        RIGHT, y, is_stop ? 70 : 48, hue, is_stop ? "#c00000" : "#666", is_stop ? 4 : 1, escape(whole)
     text(RIGHT + 12, y + 20, head, "")
     text(RIGHT + 12, y + 39, below, " class=\"small\"")
     if (is_stop) {
-        text(RIGHT + 348, y + 39, "stopped here, " reason, " text-anchor=\"end\" fill=\"#c00000\" font-weight=\"bold\"")
+        text(RIGHT + 12, y + 60, "stopped here, " reason, " fill=\"#c00000\" font-weight=\"bold\"")
         is_marked = 1
+        y += 22
     }
     y += 58
 }
@@ -108,7 +110,7 @@ function draw_end(    what) {
         printf "<rect x=\"%d\" y=\"%d\" width=\"360\" height=\"48\" rx=\"4\" fill=\"#ffffff\" stroke=\"#207020\" stroke-width=\"4\"/>\n", RIGHT, y
         text(RIGHT + 12, y + 29, what ": finished here", " fill=\"#207020\" font-weight=\"bold\"")
         y += 58
-    } else box(what, "", "#ffffff", 1)
+    } else box(what, "", "#ffffff", 1, words)
 }
 
 END {
@@ -117,7 +119,7 @@ END {
     list_stores()
     tall = TOP + 40
     for (r = 0; r < rows; r++) tall += height(bytes[r])
-    if (TOP + 58 * (stores + 1) + 40 > tall) tall = TOP + 58 * (stores + 1) + 40
+    if (TOP + 58 * (stores + 1) + 62 > tall) tall = TOP + 58 * (stores + 1) + 62
     print "<!DOCTYPE html>\n<html lang=\"en\">\n<head>\n<meta charset=\"utf-8\">"
     print "<title>" escape(name) "</title>\n</head>\n<body style=\"margin:0;background:#ffffff\">"
     printf "<svg xmlns=\"http://www.w3.org/2000/svg\" width=\"960\" height=\"%d\" viewBox=\"0 0 960 %d\" font-family=\"sans-serif\" font-size=\"15\">\n", tall, tall
