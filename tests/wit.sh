@@ -115,6 +115,7 @@ same 'the stop is marked once' 1 "$(grep -c 'stopped here, 36' "$page")"
 same 'it is marked at the store that was stopped' 'WRITE32 at instruction 8' \
     "$(grep -B 2 'stopped here' "$page" | sed -n 's/.*>\(WRITE32[^<]*\)<.*/\1/p')"
 same 'it needs nothing from elsewhere' 0 "$(grep -v 'xmlns=' "$page" | grep -c -E 'https?:|<script|<link|url\([^#]')"
+same 'the picture in README' "$(cat docs/plots-right-list.svg)" "$(sed -n '/<svg/,/<\/svg>/p' "$page")"
 ./wit show "$sum" 1 2 --html - >"$work/sum.html" 2>/dev/null
 same 'the picture of a run with inputs' 1 "$(grep -c 'END at instruction 4: finished here' "$work/sum.html")"
 ./wit show "$sum" --html - 2>/dev/null >"$work/sum.html"
@@ -184,11 +185,11 @@ same 'the version' "toltjebrim $(cat VERSION)" "$(./wit --version)"
 while IFS= read -r command; do
     # shellcheck disable=SC2086
     same "the sample of README: $command" "$(awk -v c="    \$ $command" '
-        on && !/^    [^$]/ { exit }
+        on && /^([^ ]|    \$)/ { exit }
         on { print substr($0, 5) }
         $0 == c { on = 1 }' README.md)" "$($command 2>&1)"
 done <<<"$(sed -n 's/^    \$ //p' README.md)"
-same 'README has samples' 2 "$(grep -c '^    \$ ./wit ' README.md)"
+same 'README has samples' 3 "$(grep -c '^    \$ ./wit ' README.md)"
 same 'the changelog has the version' 1 "$(grep -c "^## $(cat VERSION)" CHANGELOG.md)"
 
 close
