@@ -110,6 +110,11 @@ run quick
 ends 'a target that rt made alone' 0 "$line" 6
 run quick
 ends 'and then no more' 0 "$line" 6
+echo '// a third line' >>"$work/clone/crates/numbers/src/lib.rt"
+(cd "$work/clone" && mode=quick "$work/bin/rt" check run_routine >/dev/null && printf x >>target/bin/run_routine)
+run quick
+ends 'a program that rt has built anew' 0 "$line" 8
+same 'it was not built again' "x, 0" "$(tail -c 1 "$work/clone/target/bin/run_routine"), $(grep -c building "$work/said")"
 
 echo 'tests/build.sh: what is never used'
 fresh
