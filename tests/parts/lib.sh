@@ -39,3 +39,16 @@ numbers() {
         printf "$escape"
     done
 }
+
+# A copy of the command with its built programs, in which a test may break what it likes and which any user
+# can reach.
+copy_clone() { # FOLDER
+    mkdir -p "$1/target"
+    cp -R wit show docs VERSION crates crates.txt examples "$1/"
+    cp -R target/bin target/stamp target/wit "$1/target/"
+    chmod -R a+rX "$1"
+}
+
+# The words that run a command as a user who is not root.
+other=()
+if [ "$(id -u)" -eq 0 ]; then other=(setpriv --reuid=65534 --regid=65534 --clear-groups); fi

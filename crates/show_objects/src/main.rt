@@ -1,7 +1,7 @@
-// Shows the objects of the routine on standard input, one to a line with single blanks: number, kind
-// (global or site), size, class (its lowest object, or the word safe), color, and place (where a global
-// starts). A site has no size and no place, and `-` stands for them. Of a routine that is refused, the
-// number and place of the refusal.
+// Shows the objects of the file on standard input, one to a line with single blanks: number, kind (global
+// or site), size, class (its lowest object, or the word safe), color, and start (the address of a global).
+// A site has no size and no start, and `-` stands for them. Of a file that is refused, the number and place
+// of the refusal. A file whose first byte is 2 is read as version 2, any other as version 1.
 use coloring::read_colored;
 use files::Loaded;
 use files::Outcome;
@@ -11,7 +11,7 @@ use libc::STDOUT_FILENO;
 use numbers::Refusal;
 
 // One byte more than the longest file, so that a longer one is seen to be too long.
-const LONGEST: usize = 16385;
+const LONGEST: usize = 32769;
 
 // Where the globals must end.
 const GLOBALS_END: u32 = 28672;
@@ -23,7 +23,7 @@ struct Row {
     size: u16,
     class: usize,
     color: u8,
-    place: u32,
+    start: u32,
 }
 
 fn print(text: &[u8]) {
@@ -61,10 +61,10 @@ fn print_class(class: usize, color: u8) {
     print_number(color as u64);
 }
 
-fn print_place(kind: u8, place: u32) {
+fn print_start(kind: u8, start: u32) {
     if kind == 0 {
         print(b" ");
-        print_number(place as u64);
+        print_number(start as u64);
     } else {
         print(b" -");
     }
@@ -74,7 +74,7 @@ fn print_row(row: Row) {
     print_number(row.number as u64);
     print_size(row.kind, row.size);
     print_class(row.class, row.color);
-    print_place(row.kind, row.place);
+    print_start(row.kind, row.start);
     print(b"\n");
 }
 
@@ -112,14 +112,29 @@ fn print_objects(routine: Loaded) {
             size: sizes[g],
             class: lowest(&colors, color),
             color,
-            place: starts[g],
+            start: starts[g],
         });
         g += 1;
     }
 }
 
+fn is_version_2(file: &[u8]) -> bool {
+    if file.len() == 0 {
+        return false;
+    }
+    file[0] == 2
+}
+
+// The file as it is held, with the colors that its version gives its objects.
+fn read_either(file: &[u8]) -> Loaded {
+    if is_version_2(file) {
+        return files::read_program(file);
+    }
+    read_colored(file)
+}
+
 fn show_objects(file: &[u8]) {
-    let routine = read_colored(file);
+    let routine = read_either(file);
     let outcome = routine.outcome;
     match outcome {
         Outcome::Whole => print_objects(routine),

@@ -21,14 +21,14 @@ same-length c = search needs
 returns : tie.Need-returns
 returns c = search needs
 
-slice-reshare-prefix-run-instrumented : tie.Need-slice-reshare-prefix-run-instrumented
-slice-reshare-prefix-run-instrumented c = search needs
+slice-reshare-prefix-run-on : tie.Need-slice-reshare-prefix-run-on
+slice-reshare-prefix-run-on c = search needs
 
-slice-aggregate-run-instrumented : tie.Need-slice-aggregate-run-instrumented
-slice-aggregate-run-instrumented c = simp length-take (omega arith)
+slice-aggregate-run-on : tie.Need-slice-aggregate-run-on
+slice-aggregate-run-on c = simp length-take (omega arith)
 
-run-instrumented-requires : tie.Need-run-instrumented-requires
-run-instrumented-requires c κs = search needs
+run-on-requires : tie.Need-run-on-requires
+run-on-requires c κs = search needs
 
 same-length-2 : tie.Need-same-length-2
 same-length-2 c = search needs
@@ -51,9 +51,9 @@ run-with-spec =
     enum-told
     same-length
     returns
-    slice-reshare-prefix-run-instrumented
-    slice-aggregate-run-instrumented
-    run-instrumented-requires
+    slice-reshare-prefix-run-on
+    slice-aggregate-run-on
+    run-on-requires
     same-length-2
     returns-2
     same-length-3
