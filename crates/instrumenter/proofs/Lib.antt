@@ -1,8 +1,7 @@
 -- What the crate promises, and what carries it.
 --
 -- Every file and every room get 01's answer (`instrument`): the contract is an equation with the
--- definition `instrument` of specs/Answer.antt, and the room afterwards is the one it says. Two answers
--- that meet it are equal.
+-- definition `instrument` of specs/Answer.antt, and the room afterwards is the one it says.
 --
 -- About the definitions, for the crates above:
 --   a file of version 2 can say it: 2,000 instructions, 32,768 bytes  `instrumented-good` in `Instrumenting`

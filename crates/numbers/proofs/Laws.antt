@@ -1,6 +1,6 @@
 -- What the crates above may use of numbers: laws on the definitions of specs/Number.antt. Assumes nothing.
 use mathlib.Core.Path.{_≡_, refl, sym, ap, _∙_}
-use mathlib.Core.List.{List, [], _∷_, _++_, map, append-assoc}
+use mathlib.Core.List.{List, _++_, append-assoc}
 use mathlib.Core.Logic.{_⊎_}
 use Prim.Native.Nat.{ℕ, _+_, _^_, _<_, _≤_}
 use native.Mathlib.Omega.{arith}
@@ -13,7 +13,6 @@ use Rattle.numbers.specs.declared.Cursor.{Cursor}
 use Rattle.numbers.specs.declared.Refusal.{Refusal}
 use Rattle.numbers.specs.declared.Read.{Read}
 use Rattle.numbers.specs.declared.Read.the-variants.{Number, Refused}
-use Rattle.numbers.specs.declared.Written.{Written}
 use Rattle.numbers.specs.declared.Written.the-variants.{Upto, TooSmall}
 use Rattle.numbers.proofs.Reading.{start}
 use Rattle.numbers.proofs.Outcome.{Outcome, refused, number, outcome, reads}
@@ -129,17 +128,3 @@ module _ (room : List ℕ) (at n : ℕ) where
       let placed : length (take at room) ≡ at = length-take-le at room (omega arith) in
       rw (written h .1, sets-eq (spell n) room at h)
       (rw placed at (reads-back (take at room) (drop (at + width n) room) n b))
-
--- ---- two answers that satisfy a contract are equal
-
-pub one-answer-read : (file : List ℕ) (at : ℕ) {r r′ : Read}
-    → r ≡ readNumber file at → r′ ≡ readNumber file at → r ≡ r′
-one-answer-read file at p q = p ∙ sym q
-
-pub one-answer-width : (n : ℕ) {r r′ : ℕ} → r ≡ width n → r′ ≡ width n → r ≡ r′
-one-answer-width n p q = p ∙ sym q
-
-pub one-answer-write : (room : List ℕ) (at n : ℕ) {r r′ : Written} {l l′ : List ℕ}
-    → (r ≡ writtenAt room at n) × (l ≡ roomAfter room at n)
-    → (r′ ≡ writtenAt room at n) × (l′ ≡ roomAfter room at n) → (r ≡ r′) × (l ≡ l′)
-one-answer-write room at n p q = (p .0 ∙ sym (q .0), p .1 ∙ sym (q .1))

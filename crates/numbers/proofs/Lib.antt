@@ -11,7 +11,6 @@
 --   a number that is read ends inside the file, behind its start     `read-bounds`
 --   reading never looks past its number                              `read-prefix`
 --   a refusal is 2 or 3, with 01's place                             `refusal-is-2-or-3`
---   two answers that meet a contract are equal                       `one-answer-read`, `-width`, `-write`
 --
 -- The first four are one equivalence, by induction on the groups (`Outcome`): a number is read where, and only
 -- where, its spelling stands.

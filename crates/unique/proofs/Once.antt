@@ -1,0 +1,172 @@
+-- Every contract says all that it says by equations, and two things that are equal to one value are
+-- equal.
+use Prim.Native.Nat.{ℕ}
+use mathlib.Core.Path.{_≡_, sym, _∙_, ap}
+use mathlib.Core.List.{List}
+use denote.Ref.{RefT}
+use Rattle.reader.specs.declared.Reader.{Reader}
+use Rattle.machine.specs.declared.Run.{Run}
+use Rattle.machine.specs.Running.{Lent, Answer, lentOf, answered}
+use Rattle.unique.specs.Once.{Once, numbers-read-number, numbers-number-width, numbers-write-number, reader-open, reader-after, reader-number, reader-read-at, opcodes-row-of, opcodes-last-opcode, opcodes-is-present, opcodes-is-within, opcodes-is-color, opcodes-is-allowed, opcodes-instr-of, opcodes-parts-of, files-read-routine, files-read-program, writer-write-program, coloring-read-colored, coloring-nature, coloring-nature-of, layout-lay-out, heap-fill, heap-load8, heap-load32, heap-store8, heap-store32, heap-check8, heap-check32, heap-paint, heap-start, heap-alloc, heap-free, instrumenter-instrument, machine-run-file, controller-control, controller-numbers-of, controller-toltjebrim-control}
+
+-- ---- the law, and its forms for several values
+
+once : {A : Type 0} {c : A} → Once (λ (r : A). r ≡ c)
+once a b p q = p ∙ sym q
+
+pair-once : {A B : Type 0} {c : A} {d : B} → Once {A = A × B} (λ (x, y). (x ≡ c) × (y ≡ d))
+pair-once a b p q = λ i. (once (a .0) (b .0) (p .0) (q .0) i, once (a .1) (b .1) (p .1) (q .1) i)
+
+triple-once : {A B C : Type 0} {c : A} {d : B} {e : C} → Once {A = A × B × C} (λ (x, y, z). (x ≡ c) × (y ≡ d) × (z ≡ e))
+triple-once a b p q =
+    λ i. (once (a .0) (b .0) (p .0) (q .0) i, once (a .1) (b .1) (p .1) (q .1) i, once (a .2) (b .2) (p .2) (q .2) i)
+
+reader-once : {f : RefT (List ℕ)} {n : ℕ} → Once {A = Reader} (λ q. (q .file ≡ f) × (q .at ≡ n))
+reader-once a b p q =
+    ap (λ (x : RefT (List ℕ) × ℕ). record { file = x .0; at = x .1 }) (pair-once (a .file, a .at) (b .file, b .at) p q)
+
+-- a run's record and the lent buffers, by one equation; the buffers and the five numbers, by two
+run-once : {c : Answer} → Once {A = Run × List ℕ × List ℕ × List ℕ} (λ (r, memory, table, room). answered r (lentOf memory table room) ≡ c)
+run-once a b p q =
+    ap (λ (x : Answer). (x .run, x .lent .memory, x .lent .table, x .lent .room)) (p ∙ sym q)
+
+lent-once : {c : List ℕ} {d : Lent} → Once {A = List ℕ × List ℕ × List ℕ × List ℕ} (λ (memory, table, room, numbers). (numbers ≡ c) × (lentOf memory table room ≡ d))
+lent-once a b p q =
+    ap (λ (x : List ℕ × Lent). (x .1 .memory, x .1 .table, x .1 .room, x .0))
+    (pair-once (a .3, lentOf (a .0) (a .1) (a .2)) (b .3, lentOf (b .0) (b .1) (b .2)) p q)
+
+-- ---- numbers
+
+pub numbers-read-number-once : numbers-read-number
+numbers-read-number-once file from = once
+
+pub numbers-number-width-once : numbers-number-width
+numbers-number-width-once n = once
+
+pub numbers-write-number-once : numbers-write-number
+numbers-write-number-once room at n = pair-once
+
+-- ---- reader
+
+pub reader-open-once : reader-open
+reader-open-once file = reader-once
+
+pub reader-after-once : reader-after
+reader-after-once r read = reader-once
+
+pub reader-number-once : reader-number
+reader-number-once r = once
+
+pub reader-read-at-once : reader-read-at
+reader-read-at-once file from = once
+
+-- ---- opcodes
+
+pub opcodes-row-of-once : opcodes-row-of
+opcodes-row-of-once op = once
+
+pub opcodes-last-opcode-once : opcodes-last-opcode
+opcodes-last-opcode-once version = once
+
+pub opcodes-is-present-once : opcodes-is-present
+opcodes-is-present-once version kind = once
+
+pub opcodes-is-within-once : opcodes-is-within
+opcodes-is-within-once low high n = once
+
+pub opcodes-is-color-once : opcodes-is-color
+opcodes-is-color-once n = once
+
+pub opcodes-is-allowed-once : opcodes-is-allowed
+opcodes-is-allowed-once kinds scope kind n = once
+
+pub opcodes-instr-of-once : opcodes-instr-of
+opcodes-instr-of-once op x y z = once
+
+pub opcodes-parts-of-once : opcodes-parts-of
+opcodes-parts-of-once i = once
+
+-- ---- files
+
+pub files-read-routine-once : files-read-routine
+files-read-routine-once file = once
+
+pub files-read-program-once : files-read-program
+files-read-program-once file = once
+
+-- ---- writer
+
+pub writer-write-program-once : writer-write-program
+writer-write-program-once p room = pair-once
+
+-- ---- coloring
+
+pub coloring-read-colored-once : coloring-read-colored
+coloring-read-colored-once file = once
+
+pub coloring-nature-once : coloring-nature
+coloring-nature-once opcode x y z size = once
+
+pub coloring-nature-of-once : coloring-nature-of
+coloring-nature-of-once i sizes = once
+
+-- ---- layout
+
+pub layout-lay-out-once : layout-lay-out
+layout-lay-out-once kinds sizes colors objects = once
+
+-- ---- heap
+
+pub heap-fill-once : heap-fill
+heap-fill-once part value = once
+
+pub heap-load8-once : heap-load8
+heap-load8-once memory address = once
+
+pub heap-load32-once : heap-load32
+heap-load32-once memory address = once
+
+pub heap-store8-once : heap-store8
+heap-store8-once memory address value = pair-once
+
+pub heap-store32-once : heap-store32
+heap-store32-once memory address value = pair-once
+
+pub heap-check8-once : heap-check8
+heap-check8-once table address color = once
+
+pub heap-check32-once : heap-check32
+heap-check32-once table address color = once
+
+pub heap-paint-once : heap-paint
+heap-paint-once table address count color = once
+
+pub heap-start-once : heap-start
+heap-start-once memory = once
+
+pub heap-alloc-once : heap-alloc
+heap-alloc-once memory table size site color = triple-once
+
+pub heap-free-once : heap-free
+heap-free-once memory table address = triple-once
+
+-- ---- instrumenter
+
+pub instrumenter-instrument-once : instrumenter-instrument
+instrumenter-instrument-once file room = pair-once
+
+-- ---- machine
+
+pub machine-run-file-once : machine-run-file
+machine-run-file-once file input memory table room limit = run-once
+
+-- ---- controller
+
+pub controller-control-once : controller-control
+controller-control-once file input memory table room limit = run-once
+
+pub controller-numbers-of-once : controller-numbers-of
+controller-numbers-of-once run = once
+
+pub controller-toltjebrim-control-once : controller-toltjebrim-control
+controller-toltjebrim-control-once file input memory table room limit numbers = lent-once

@@ -1,0 +1,213 @@
+-- 01: "From two answers that satisfy it, equality is proved." A statement for each public function, by
+-- crate and name. What it promises is the function's contract: r is what is returned, a lent buffer's
+-- name is what it holds before, and the name with a mark what it holds afterwards.
+use Prim.Native.Nat.{ℕ}
+use mathlib.Core.Path.{_≡_}
+use mathlib.Core.List.{List}
+use mathlib.Core.Bool.{Bool}
+use lib.ListN.{length, replicate}
+use denote.Ref.{RefT, now}
+use Rattle.numbers.specs.declared.Cursor.{Cursor}
+use Rattle.numbers.specs.declared.Written.{Written}
+use Rattle.numbers.specs.Number.{readNumber, width, writtenAt, roomAfter}
+use Rattle.reader.specs.declared.Reader.{Reader}
+use Rattle.opcodes.specs.declared.Instr.{Instr}
+use Rattle.opcodes.specs.declared.Operand.{Operand}
+use Rattle.opcodes.specs.declared.Scope.{Scope}
+use Rattle.opcodes.specs.Table.{rowOf, make, partsOf}
+use Rattle.opcodes.specs.Making.{made}
+use Rattle.opcodes.specs.Ranges.{lastOpcode, within, isColor, present, scopeOver, allowed}
+use Rattle.opcodes.specs.View.{view}
+use Rattle.files.specs.declared.Loaded.{Loaded}
+use Rattle.files.specs.declared.Written as FileWritten
+use Rattle.files.specs.Reading.{readFile}
+use Rattle.files.specs.Held.{held, writtenIn, roomWith}
+use Rattle.coloring.specs.Colored.{colored}
+use Rattle.coloring.specs.Nature.{natureOf, sizesIn}
+use Rattle.layout.specs.Arrays.{piecesIn, layoutOf}
+use Rattle.heap.specs.declared.Allocation.{Allocation}
+use Rattle.heap.specs.declared.Release.{Release}
+use Rattle.heap.specs.Memory.{hasColor, everyByte}
+use Rattle.heap.specs.Lent
+use Rattle.heap.specs.Lent.{loaded, stored, painted, allocated, released, started}
+use Rattle.instrumenter.specs.declared.Instrumented.{Instrumented}
+use Rattle.instrumenter.specs.Answer.{instrument, told, roomHolding}
+use Rattle.machine.specs.declared.Run.{Run}
+use Rattle.machine.specs.Running.{lentOf, answered, runFile}
+use Rattle.controller.specs.Control.{control, fiveOf}
+
+-- two answers that satisfy a promise are equal
+abbrev pub Once : {A : Type 0} → (A → Type 0) → Type 0
+Once {A} Promise = (a b : A) → Promise a → Promise b → a ≡ b
+
+-- ---- numbers
+
+abbrev pub numbers-read-number : Type 0
+numbers-read-number = (file : List ℕ) (from : Cursor) → Once (λ r. r ≡ readNumber file (from .at))
+
+abbrev pub numbers-number-width : Type 0
+numbers-number-width = (n : ℕ) → Once (λ r. r ≡ width n)
+
+abbrev pub numbers-write-number : Type 0
+numbers-write-number =
+    (room : List ℕ) (at n : ℕ)
+    → Once {A = Written × List ℕ} (λ (r, room′). (r ≡ writtenAt room at n) × (room′ ≡ roomAfter room at n))
+
+-- ---- reader: a reader holds the reference to a file's bytes, which `now` reads
+
+abbrev pub reader-open : Type 0
+reader-open = (file : RefT (List ℕ)) → Once {A = Reader} (λ r. (r .file ≡ file) × (r .at ≡ 0))
+
+abbrev pub reader-after : Type 0
+reader-after = (r : Reader) (read : Cursor) → Once {A = Reader} (λ q. (q .file ≡ r .file) × (q .at ≡ read .at))
+
+abbrev pub reader-number : Type 0
+reader-number = (r : Reader) → Once (λ n. n ≡ readNumber (now (r .file)) (r .at))
+
+abbrev pub reader-read-at : Type 0
+reader-read-at = (file : List ℕ) (from : Cursor) → Once (λ r. r ≡ readNumber file (from .at))
+
+-- ---- opcodes
+
+abbrev pub opcodes-row-of : Type 0
+opcodes-row-of = (op : ℕ) → Once (λ r. r ≡ rowOf op)
+
+abbrev pub opcodes-last-opcode : Type 0
+opcodes-last-opcode = (version : ℕ) → Once (λ r. r ≡ lastOpcode version)
+
+abbrev pub opcodes-is-present : Type 0
+opcodes-is-present = (version : ℕ) (kind : Operand) → Once (λ r. r ≡ present version kind)
+
+abbrev pub opcodes-is-within : Type 0
+opcodes-is-within = (low high n : ℕ) → Once (λ r. r ≡ within low high n)
+
+abbrev pub opcodes-is-color : Type 0
+opcodes-is-color = (n : ℕ) → Once (λ r. r ≡ isColor n)
+
+abbrev pub opcodes-is-allowed : Type 0
+opcodes-is-allowed =
+    (kinds : List ℕ) (scope : Scope) (kind : Operand) (n : ℕ) → Once (λ r. r ≡ allowed (scopeOver scope kinds) kind n)
+
+abbrev pub opcodes-instr-of : Type 0
+opcodes-instr-of = (op x y z : ℕ) → Once (λ r. r ≡ made op x y z)
+
+abbrev pub opcodes-parts-of : Type 0
+opcodes-parts-of = (i : Instr) → Once (λ r. r ≡ partsOf i)
+
+-- ---- files
+
+abbrev pub files-read-routine : Type 0
+files-read-routine = (file : List ℕ) → Once (λ r. r ≡ held (readFile 1 file))
+
+abbrev pub files-read-program : Type 0
+files-read-program = (file : List ℕ) → Once (λ r. r ≡ held (readFile 2 file))
+
+-- ---- writer
+
+abbrev pub writer-write-program : Type 0
+writer-write-program =
+    (p : Loaded) (room : List ℕ)
+    → Once {A = FileWritten.Written × List ℕ} (λ (r, room′). (r ≡ writtenIn room p) × (room′ ≡ roomWith room p))
+
+-- ---- coloring
+
+abbrev pub coloring-read-colored : Type 0
+coloring-read-colored = (file : List ℕ) → Once (λ r. r ≡ held (colored (readFile 1 file)))
+
+abbrev pub coloring-nature : Type 0
+coloring-nature = (opcode x y z size : ℕ) → Once (λ r. r ≡ natureOf (λ g. size) (view (make opcode x y z)))
+
+abbrev pub coloring-nature-of : Type 0
+coloring-nature-of = (i : Instr) (sizes : List ℕ) → Once (λ r. r ≡ natureOf (sizesIn sizes) (view i))
+
+-- ---- layout
+
+abbrev pub layout-lay-out : Type 0
+layout-lay-out =
+    (kinds sizes colors : List ℕ) (objects : ℕ) → Once (λ r. r ≡ layoutOf (piecesIn kinds sizes colors objects))
+
+-- ---- heap
+
+abbrev pub heap-fill : Type 0
+heap-fill = (part : List ℕ) (value : ℕ) → Once (λ part′. part′ ≡ replicate (length part) value)
+
+abbrev pub heap-load8 : Type 0
+heap-load8 = (memory : List ℕ) (address : ℕ) → Once (λ r. r ≡ loaded 1 memory address)
+
+abbrev pub heap-load32 : Type 0
+heap-load32 = (memory : List ℕ) (address : ℕ) → Once (λ r. r ≡ loaded 4 memory address)
+
+abbrev pub heap-store8 : Type 0
+heap-store8 =
+    (memory : List ℕ) (address value : ℕ)
+    → Once {A = Bool × List ℕ} (λ (r, memory′). (r ≡ Lent.within 1 memory address) × (memory′ ≡ stored 1 memory address value))
+
+abbrev pub heap-store32 : Type 0
+heap-store32 =
+    (memory : List ℕ) (address value : ℕ)
+    → Once {A = Bool × List ℕ} (λ (r, memory′). (r ≡ Lent.within 4 memory address) × (memory′ ≡ stored 4 memory address value))
+
+abbrev pub heap-check8 : Type 0
+heap-check8 = (table : List ℕ) (address color : ℕ) → Once (λ r. r ≡ everyByte 1 (hasColor table color) address)
+
+abbrev pub heap-check32 : Type 0
+heap-check32 = (table : List ℕ) (address color : ℕ) → Once (λ r. r ≡ everyByte 4 (hasColor table color) address)
+
+abbrev pub heap-paint : Type 0
+heap-paint = (table : List ℕ) (address count color : ℕ) → Once (λ table′. table′ ≡ painted table address count color)
+
+abbrev pub heap-start : Type 0
+heap-start = (memory : List ℕ) → Once (λ memory′. memory′ ≡ started memory)
+
+abbrev pub heap-alloc : Type 0
+heap-alloc =
+    (memory table : List ℕ) (size site color : ℕ)
+    → Once {A = Allocation × List ℕ × List ℕ}
+    (λ (r, memory′, table′).
+    (r ≡ allocated memory table size site color .answer)
+    × (memory′ ≡ allocated memory table size site color .memory)
+    × (table′ ≡ allocated memory table size site color .table))
+
+abbrev pub heap-free : Type 0
+heap-free =
+    (memory table : List ℕ) (address : ℕ)
+    → Once {A = Release × List ℕ × List ℕ}
+    (λ (r, memory′, table′).
+    (r ≡ released memory table address .answer)
+    × (memory′ ≡ released memory table address .memory)
+    × (table′ ≡ released memory table address .table))
+
+-- ---- instrumenter
+
+abbrev pub instrumenter-instrument : Type 0
+instrumenter-instrument =
+    (file room : List ℕ)
+    → Once {A = Instrumented × List ℕ}
+    (λ (r, room′). (r ≡ told (instrument file (length room))) × (room′ ≡ roomHolding room (instrument file (length room))))
+
+-- ---- machine
+
+abbrev pub machine-run-file : Type 0
+machine-run-file =
+    (file input memory table room : List ℕ) (limit : ℕ)
+    → Once {A = Run × List ℕ × List ℕ × List ℕ}
+    (λ (r, memory′, table′, room′). answered r (lentOf memory′ table′ room′) ≡ runFile file input limit (lentOf memory table room))
+
+-- ---- controller
+
+abbrev pub controller-control : Type 0
+controller-control =
+    (file input memory table room : List ℕ) (limit : ℕ)
+    → Once {A = Run × List ℕ × List ℕ × List ℕ}
+    (λ (r, memory′, table′, room′). answered r (lentOf memory′ table′ room′) ≡ control file input limit (lentOf memory table room))
+
+abbrev pub controller-numbers-of : Type 0
+controller-numbers-of = (run : Run) → Once (λ r. r ≡ fiveOf run)
+
+abbrev pub controller-toltjebrim-control : Type 0
+controller-toltjebrim-control =
+    (file input memory table room : List ℕ) (limit : ℕ) (numbers : List ℕ)
+    → Once {A = List ℕ × List ℕ × List ℕ × List ℕ}
+    (λ (memory′, table′, room′, numbers′).
+    (numbers′ ≡ fiveOf (control file input limit (lentOf memory table room) .run))
+    × (lentOf memory′ table′ room′ ≡ control file input limit (lentOf memory table room) .lent))

@@ -1,0 +1,1 @@
+// Two answers that satisfy a public function's contract are equal.
