@@ -2,7 +2,7 @@
 //! answer held to this implementation's own. `--self` holds the plain rule
 //! against instrumented code instead, with no other program.
 
-use std::io::{self, Read};
+use std::io::{self, Read, Write};
 use std::process::ExitCode;
 use std::time::{Instant, SystemTime, UNIX_EPOCH};
 use toltjebrim::coverage::{meaning, Coverage};
@@ -15,7 +15,7 @@ use toltjebrim::lockstep::same_run;
 use toltjebrim::partner::{serve, Asked, Partner, Silence};
 use toltjebrim::shrink::shrink;
 use toltjebrim::states::Seen;
-use toltjebrim::wire::{from_hex, to_hex, Answer, Case, Kind};
+use toltjebrim::wire::{from_hex, to_hex, Answer, Case, Kind, HEADER};
 use toltjebrim::{machine, plain};
 
 const USAGE: &str = "\
@@ -26,11 +26,13 @@ use: trials --program CMD [--cases N] [--seed S] [--kinds 1,3,8]
      trials --self --replay HEX
      trials --self [--seed S] --replay NUMBER
      trials --serve [--spoil R]
+     trials --emit [--cases N] [--seed S] [--kinds 1,3,8]
   CMD starts a program that reads cases and writes answers (PROTOCOL.md); the
   shell runs it if there is more to it than plain words
   S is a number, or the word fresh; HEX is a case in hexadecimal, or - for
   standard input; NUMBER is that of a case as a trial tells it; --serve answers cases as such a program does, and with
-  --spoil wrongly wherever the first word should be R";
+  --spoil wrongly wherever the first word should be R; --emit writes the cases
+  themselves, as such a program reads them";
 
 /// After so many differences the trial ends; more would not tell more.
 const SHOWN: usize = 5;
@@ -42,6 +44,7 @@ struct Options {
     program: Option<String>,
     alone: bool,
     serve: bool,
+    emit: bool,
     /// To see that a wrong answer is noticed.
     spoil: Option<u64>,
     cases: u64,
@@ -84,6 +87,7 @@ fn options(words: Vec<String>) -> Result<Options, String> {
         program: None,
         alone: false,
         serve: false,
+        emit: false,
         spoil: None,
         cases: 20_000,
         seed: 1,
@@ -97,6 +101,7 @@ fn options(words: Vec<String>) -> Result<Options, String> {
             "--program" => options.program = Some(value()?),
             "--self" => options.alone = true,
             "--serve" => options.serve = true,
+            "--emit" => options.emit = true,
             "--spoil" => options.spoil = Some(number(&value()?)?),
             "--cases" => options.cases = number(&value()?)?,
             "--seed" => options.seed = seed(&value()?)?,
@@ -105,9 +110,9 @@ fn options(words: Vec<String>) -> Result<Options, String> {
             _ => return Err(format!("{:?} is no option", word)),
         }
     }
-    let ways = [options.program.is_some(), options.alone, options.serve];
+    let ways = [options.program.is_some(), options.alone, options.serve, options.emit];
     if ways.iter().filter(|way| **way).count() != 1 {
-        return Err("say one of --program, --self and --serve".to_string());
+        return Err("say one of --program, --self, --serve and --emit".to_string());
     }
     Ok(options)
 }
@@ -139,12 +144,26 @@ fn carry_out(options: &Options) -> Result<(), String> {
         let answer = |case: &Case| spoiled(case.answer(), options.spoil);
         return serve(io::stdin().lock(), io::stdout().lock(), answer);
     }
+    if options.emit {
+        return emit(options).map_err(|error| format!("the cases cannot be written: {}", error));
+    }
     match (&options.program, &options.replay) {
         (Some(program), Some(word)) => replay(program, word, options),
         (Some(program), None) => against(program, options),
         (None, Some(word)) => replay_alone(word, options),
         (None, None) => alone(options),
     }
+}
+
+/// Writes the cases, and that no more follow.
+fn emit(options: &Options) -> io::Result<()> {
+    let mut output = io::BufWriter::new(io::stdout().lock());
+    let all = Cases::of(options);
+    for number in 0..options.cases {
+        output.write_all(&all.case(number).to_bytes())?;
+    }
+    output.write_all(&[0; HEADER])?;
+    output.flush()
 }
 
 fn spoiled(mut answer: Answer, spoil: Option<u64>) -> Answer {

@@ -14,7 +14,7 @@ const MOST_CODE: usize = 2_000;
 
 /// A routine that goes far in some way; its run is short.
 pub fn routine(random: &mut Random) -> Routine {
-    match random.below(7) {
+    match random.below(8) {
         0 => {
             let length = random.pick(&[8, 30, 399, 399]);
             chain(random, length)
@@ -27,6 +27,7 @@ pub fn routine(random: &mut Random) -> Routine {
         3 => high_sites(random),
         4 => full_globals(random),
         5 => far_jumps(random),
+        6 => wide_set(random),
         _ => half_outside(random),
     }
 }
@@ -119,6 +120,17 @@ pub fn chain(random: &mut Random, length: usize) -> Routine {
     routine
 }
 
+/// One set of all objects, mostly of as many as there can be.
+pub fn wide_set(random: &mut Random) -> Routine {
+    let count = random.pick(&[128, 255, 256, 399, MOST_OBJECTS, MOST_OBJECTS]);
+    let to = random.index(count) as u16;
+    Routine {
+        objects: vec![Object::Global { size: random.between(1, 40) }; count],
+        sets: vec![(0..count).collect()],
+        code: vec![Place { d: 0, g: to }, write(random, 0, 0, 0), Out { a: 0 }, End],
+    }
+}
+
 /// As many classes as there are colors, with a store into each.
 pub fn every_color(random: &mut Random) -> Routine {
     let mut routine = Routine::default();
@@ -142,6 +154,13 @@ pub fn every_color(random: &mut Random) -> Routine {
         });
         let store = write(random, 0, 2, g);
         routine.code.push(store);
+    }
+    // A store into a class whose color differs in one bit alone.
+    let color = random.between(2, 255);
+    let other = color ^ 1 << random.below(8);
+    if other >= 2 && other - 2 >= sites as u32 {
+        routine.code.push(Place { d: 0, g: other as u16 - 2 });
+        routine.code.push(write(random, 0, 2, color as u16 - 2));
     }
     routine.code.push(End);
     routine
