@@ -256,9 +256,7 @@ fn about(machine: &Machine, instruction: Instruction) -> Option<About> {
     match instruction {
         Check8 { c, .. } | CheckPut8 { c, .. } => Some(About::Color(c)),
         Check32 { a, c } => half_outside(of(a)).or(Some(About::Color(c))),
-        CheckPut32 { g, k, c } => {
-            half_outside(machine.byte_of(g, k)).or(Some(About::Color(c)))
-        }
+        CheckPut32 { g, k, c } => half_outside(machine.byte_of(g, k)).or(Some(About::Color(c))),
         Put8 { g, k, .. } => into_last_global(machine.byte_of(g, k), 0),
         Put32 { g, k, .. } => {
             let to = machine.byte_of(g, k);

@@ -90,7 +90,11 @@ fn a_right_program_passes() {
     let output = trials(&["--program", &serve, "--cases", "6000", "--seed", "3"]);
     let (out, err) = (text(&output.stdout), text(&output.stderr));
     assert!(output.status.success(), "{}{}", out, err);
-    assert!(out.contains("6000 cases, 0 different, 0 numbers not reached, 0 states not reached"), "{}", out);
+    assert!(
+        out.contains("6000 cases, 0 different, 0 numbers not reached, 0 states not reached"),
+        "{}",
+        out
+    );
 }
 
 #[test]

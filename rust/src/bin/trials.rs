@@ -58,7 +58,8 @@ impl Options {
     fn which(&self) -> String {
         let mut words = format!("--seed {}", self.seed);
         if self.kinds != Kind::ALL {
-            let kinds: Vec<String> = self.kinds.iter().map(|&kind| (kind as u8).to_string()).collect();
+            let kinds: Vec<String> =
+                self.kinds.iter().map(|&kind| (kind as u8).to_string()).collect();
             words.push_str(&format!(" --kinds {}", kinds.join(",")));
         }
         words

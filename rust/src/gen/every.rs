@@ -169,6 +169,8 @@ fn far_routines(random: &mut Random) -> Vec<Case> {
     routines.extend((0..12).map(|_| far::half_outside(random)));
     routines.extend((0..4).map(|_| far::high_sites(random)));
     routines.extend((0..4).map(|_| far::wide_set(random)));
+    routines.extend((0..6).map(|_| far::high_globals(random)));
+    routines.extend((0..6).map(|_| worst::at_a_count(random)));
     let mut cases = Vec::new();
     for routine in &routines {
         cases.extend(both_ways(routine));
@@ -196,8 +198,10 @@ fn far_programs(random: &mut Random) -> Vec<Case> {
 
 /// Numbers at far places of large rooms.
 fn far_numbers() -> Vec<Case> {
-    let places = [(40_960, 256), (40_960, 8_192), (40_960, 32_768), (40_960, 40_955), (9_000, 8_995)];
-    let one = |(room, cursor)| Case { limit: u32::MAX, room, cursor, ..Case::new(Kind::WriteNumber) };
+    let places =
+        [(40_960, 256), (40_960, 8_192), (40_960, 32_768), (40_960, 40_955), (9_000, 8_995)];
+    let one =
+        |(room, cursor)| Case { limit: u32::MAX, room, cursor, ..Case::new(Kind::WriteNumber) };
     places.into_iter().map(one).collect()
 }
 

@@ -14,7 +14,7 @@ const MOST_CODE: usize = 2_000;
 
 /// A routine that goes far in some way; its run is short.
 pub fn routine(random: &mut Random) -> Routine {
-    match random.below(8) {
+    match random.below(9) {
         0 => {
             let length = random.pick(&[8, 30, 399, 399]);
             chain(random, length)
@@ -28,6 +28,7 @@ pub fn routine(random: &mut Random) -> Routine {
         4 => full_globals(random),
         5 => far_jumps(random),
         6 => wide_set(random),
+        7 => high_globals(random),
         _ => half_outside(random),
     }
 }
@@ -91,7 +92,10 @@ pub fn chain(random: &mut Random, length: usize) -> Routine {
     }
     let mut routine = Routine {
         objects: vec![Object::Global { size: 8 }; length + 1],
-        sets: order.windows(2).map(|pair| vec![pair[0].min(pair[1]), pair[0].max(pair[1])]).collect(),
+        sets: order
+            .windows(2)
+            .map(|pair| vec![pair[0].min(pair[1]), pair[0].max(pair[1])])
+            .collect(),
         code: Vec::new(),
     };
     let mut numbers: Vec<usize> = (0..length).collect();
@@ -197,6 +201,32 @@ pub fn high_sites(random: &mut Random) -> Routine {
     }
     routine.code.push(End);
     routine
+}
+
+/// Many globals, and PUTs of both widths into the last of them: some safe, some
+/// past the end and into the next one of the class.
+pub fn high_globals(random: &mut Random) -> Routine {
+    let count = random.pick(&[257, 300, MOST_OBJECTS]);
+    let objects = vec![Object::Global { size: 8 }; count];
+    let mut code = vec![Set { d: 1, n: random.word() }];
+    for _ in 0..random.between(2, 9) {
+        let g = random.between(250, count as u32 - 1) as u16;
+        let k = match random.chance(70) {
+            true => random.below(5) as u16,
+            false => 16 + random.below(5) as u16,
+        };
+        code.push(match random.chance(50) {
+            true => Put8 { g, k, a: 1 },
+            false => Put32 { g, k, a: 1 },
+        });
+        code.push(Place { d: 2, g });
+        code.push(Out { a: 2 });
+        code.push(Add { d: 1, a: 1, b: 2 });
+    }
+    code.push(End);
+    // Never reached, and yet it joins the last ones.
+    code.push(Write8 { a: 0, b: 0, s: 0 });
+    Routine { objects, sets: vec![(250..count).collect()], code }
 }
 
 /// Globals that reach up to the heap, with stores into the first and the last.
@@ -358,11 +388,8 @@ pub fn long_run(random: &mut Random, steps: u32) -> Routine {
         }
     }
     let turn = body.len() as u32 + 2;
-    let mut code = vec![
-        Place { d: 0, g: 0 },
-        Set { d: 6, n: steps / turn + 1 },
-        Set { d: 7, n: 1 },
-    ];
+    let mut code =
+        vec![Place { d: 0, g: 0 }, Set { d: 6, n: steps / turn + 1 }, Set { d: 7, n: 1 }];
     let p = code.len() as u16;
     code.extend(body);
     code.push(Sub { d: 6, a: 6, b: 7 });
