@@ -266,7 +266,9 @@ fn about(machine: &Machine, instruction: Instruction) -> Option<About> {
         Write32 { a, .. } => half_outside(of(a)).or_else(|| into_last_global(of(a), 1)),
         Jump { p } if p >= FIRST_FAR => Some(About::State(FarJump, 0)),
         JumpIf { a, p } if p >= FIRST_FAR && of(a) != 0 => Some(About::State(FarJump, 1)),
-        Alloc { g, .. } if g >= FIRST_HIGH_SITE => Some(About::State(HighSite, 0)),
+        Alloc { g, a, .. } if g >= FIRST_HIGH_SITE && (1..=4_096).contains(&of(a)) => {
+            Some(About::State(HighSite, 0))
+        }
         Free { a } => by_row(machine, of(a)),
         _ => None,
     }

@@ -167,7 +167,7 @@ fn far_routines(random: &mut Random) -> Vec<Case> {
     routines.extend((0..4).map(|_| far::full_unsafe_globals(random)));
     routines.extend((0..6).map(|_| far::far_jumps(random)));
     routines.extend((0..12).map(|_| far::half_outside(random)));
-    routines.extend((0..4).map(|_| far::high_sites(random)));
+    routines.extend((0..12).map(|_| far::high_sites(random)));
     routines.extend((0..4).map(|_| far::wide_set(random)));
     routines.extend((0..6).map(|_| far::high_globals(random)));
     routines.extend((0..6).map(|_| worst::at_a_count(random)));

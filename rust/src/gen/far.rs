@@ -199,6 +199,16 @@ pub fn high_sites(random: &mut Random) -> Routine {
             routine.code.push(Free { a: d });
         }
     }
+    if random.chance(20) {
+        // The first block's address, but for a high bit; or one inside its body.
+        let n = match random.chance(50) {
+            true => 1 << random.between(16, 31),
+            false => random.pick(&[1, 4, 8]),
+        };
+        routine.code.push(Set { d: 0, n });
+        routine.code.push(Add { d: 0, a: 0, b: 8 });
+        routine.code.push(Free { a: 0 });
+    }
     routine.code.push(End);
     routine
 }
@@ -348,18 +358,28 @@ fn write_word(code: &mut Vec<Instruction>, address: u32, word: u32) {
 pub fn forged_rows(random: &mut Random) -> Instrumented {
     let before = random.below(5);
     let behind = random.below(5);
+    let mut sizes: Vec<u32> = (0..before + 1 + behind).map(|_| 8 * random.between(1, 5)).collect();
+    if sizes.len() > 1 && random.chance(25) {
+        // Two that are no whole slots, though their headers lead to the end.
+        let (at, slip) = (random.index(sizes.len() - 1), random.pick(&[1, 2, 4, 4]));
+        sizes[at] += slip;
+        sizes[at + 1] += 8 - slip;
+    }
     let mut code = Vec::new();
     let mut header = HEAP;
     let mut live = 0;
-    for number in 0..before + 1 + behind {
-        let size = 8 * random.between(1, 5);
-        let is_live = number == before;
+    for (number, size) in sizes.into_iter().enumerate() {
+        let is_live = number == before as usize;
         write_word(&mut code, header, size);
         write_word(&mut code, header + 4, if is_live { random.pick(&[1, 2, 300]) } else { 0 });
         if is_live {
             live = header + 8;
         }
         header += 8 + size;
+    }
+    if random.chance(15) {
+        // Another address, with the same low bits.
+        live ^= 1 << random.between(16, 31);
     }
     write_word(&mut code, header, END_SLOT - header - 8);
     write_word(&mut code, header + 4, random.pick(&[0, 1]));
