@@ -7,7 +7,8 @@ cd "$(dirname "$0")"
 rustc=${RUSTC:-rustc}
 out=target/plain
 mkdir -p "$out"
-flags="--edition 2021 -C opt-level=3 -C codegen-units=1"
+# As in Cargo.toml: overflow is caught.
+flags="--edition 2021 -C opt-level=3 -C codegen-units=1 -C overflow-checks=on"
 
 echo "building the library" >&2
 $rustc $flags --crate-type lib --crate-name toltjebrim -o "$out/libtoltjebrim.rlib" src/lib.rs

@@ -1,15 +1,19 @@
-//! What the trials have reached: every refusal and every stop, kind by kind. A
-//! trial in which one is missing has failed, since it says nothing about it.
+//! What the trials have reached: every refusal and every stop, and every state of
+//! [`crate::states`], kind by kind. A trial in which one is missing has failed,
+//! since it says nothing about it.
 
 use crate::record::Stop;
 use crate::refusal;
+use crate::states::{Seen, State};
 use crate::wire::Kind;
 use std::collections::BTreeMap;
 
-/// How often each kind of case was answered with each number.
+/// How often each kind of case was answered with each number, and how many cases
+/// reached each part of a state.
 #[derive(Default)]
 pub struct Coverage {
     counts: BTreeMap<(Kind, u32), u64>,
+    states: BTreeMap<(State, Kind, u32), u64>,
 }
 
 /// Every number that a kind of case can be answered with.
@@ -38,6 +42,53 @@ pub fn expected(kind: Kind) -> Vec<u32> {
 impl Coverage {
     pub fn note(&mut self, kind: Kind, number: u32) {
         *self.counts.entry((kind, number)).or_insert(0) += 1;
+    }
+
+    pub fn note_states(&mut self, kind: Kind, seen: &Seen) {
+        for (state, part) in seen.states() {
+            *self.states.entry((state, kind, part)).or_insert(0) += 1;
+        }
+    }
+
+    fn reached(&self, state: State, kind: Kind, part: u32) -> u64 {
+        self.states.get(&(state, kind, part)).copied().unwrap_or(0)
+    }
+
+    /// What was never reached, of what some of these kinds can reach.
+    pub fn missing_states(&self, kinds: &[Kind]) -> Vec<(State, Kind, u32)> {
+        let mut missing = Vec::new();
+        for state in State::ALL {
+            for &kind in state.kinds().iter().filter(|kind| kinds.contains(kind)) {
+                let parts = state.parts(kind).into_iter();
+                let parts = parts.filter(|&part| self.reached(state, kind, part) == 0);
+                missing.extend(parts.map(|part| (state, kind, part)));
+            }
+        }
+        missing
+    }
+
+    /// The table of states. A state of several parts has the count of the part
+    /// that was reached least.
+    pub fn state_table(&self, kinds: &[Kind]) -> String {
+        let mut text = format!("{:<45}", "state (of its parts the least reached)");
+        for kind in kinds {
+            text.push_str(&format!("{:>9}", heading(*kind)));
+        }
+        text.push('\n');
+        for state in State::ALL {
+            text.push_str(&format!("{:<45}", state.name()));
+            for kind in kinds {
+                let parts = state.parts(*kind).into_iter();
+                let least = parts.map(|part| self.reached(state, *kind, part)).min();
+                let cell = match least {
+                    Some(least) if state.kinds().contains(kind) => least.to_string(),
+                    _ => ".".to_string(),
+                };
+                text.push_str(&format!("{:>9}", cell));
+            }
+            text.push('\n');
+        }
+        text
     }
 
     fn count(&self, kind: Kind, number: u32) -> u64 {

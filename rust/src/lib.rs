@@ -16,8 +16,8 @@
 //! - [`gen`]: routines, damaged files and files by somebody else, from a seed;
 //! - [`wire`], [`partner`]: cases and answers as bytes on a pipe, and what this
 //!   implementation answers; the program at the other end;
-//! - [`coverage`], [`shrink`]: what the trials have reached; a case that differs,
-//!   made small.
+//! - [`states`], [`coverage`], [`shrink`]: what a case reaches, and what the
+//!   trials have reached; a case that differs, made small.
 
 pub mod coloring;
 pub mod coverage;
@@ -35,4 +35,5 @@ pub mod plain;
 pub mod record;
 pub mod refusal;
 pub mod shrink;
+pub mod states;
 pub mod wire;

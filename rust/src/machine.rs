@@ -21,10 +21,22 @@ pub fn run(
     table: &mut [u8],
     output: &mut [u32],
 ) -> Record {
-    let lent = lent(memory, table);
+    run_by(file, inputs, limit, lent(memory, table), output, |machine| machine.run())
+}
+
+/// The same, with memory and table that were taken or refused, and told how a
+/// machine gets to its stop.
+pub fn run_by(
+    file: &[u8],
+    inputs: &[u32],
+    limit: u32,
+    lent: Result<Lent, Refusal>,
+    output: &mut [u32],
+    go: impl FnOnce(Machine) -> Record,
+) -> Record {
     let loaded = lent.and_then(|lent| Ok((lent, Loaded::new(read_instrumented(file)?)?)));
     match loaded {
-        Ok((lent, loaded)) => loaded.start(inputs, limit, lent, output).run(),
+        Ok((lent, loaded)) => go(loaded.start(inputs, limit, lent, output)),
         Err(refusal) => Record::refused(refusal),
     }
 }
@@ -149,12 +161,23 @@ impl Machine<'_> {
     pub fn step(&mut self) -> Result<(), Record> {
         let steps = self.now.steps;
         while self.now.steps == steps {
-            match self.turn(self.now) {
-                Ok(next) => self.now = next,
-                Err(stop) => return Err(self.record(self.now, stop)),
-            }
+            self.advance()?;
         }
         Ok(())
+    }
+
+    /// Completes one instruction or check; or the record, if that stops the run.
+    pub fn advance(&mut self) -> Result<(), Record> {
+        match self.turn(self.now) {
+            Ok(next) => self.now = next,
+            Err(stop) => return Err(self.record(self.now, stop)),
+        }
+        Ok(())
+    }
+
+    /// The instruction or check before which the run stands.
+    pub fn next_instruction(&self) -> Option<Instruction> {
+        self.code.get(self.now.at).copied()
     }
 
     pub fn memory(&self) -> &[u8] {
@@ -243,7 +266,7 @@ impl Machine<'_> {
     }
 
     /// The address of byte k of a global. At most 28,672 + 65,535.
-    fn byte_of(&self, g: u16, k: u16) -> u32 {
+    pub fn byte_of(&self, g: u16, k: u16) -> u32 {
         self.starts[usize::from(g)] + u32::from(k)
     }
 

@@ -1,5 +1,6 @@
 //! The program at the other end of the pipes: it reads cases and writes answers.
 
+use crate::states::Seen;
 use crate::wire::{Answer, Case, ANSWER, HEADER};
 use std::fmt;
 use std::io::{Read, Write};
@@ -21,6 +22,8 @@ pub struct Asked {
     pub number: u64,
     pub case: Case,
     pub expected: Answer,
+    /// What it reached on the way.
+    pub seen: Seen,
 }
 
 /// Why there is no answer.

@@ -5,10 +5,11 @@ use crate::coloring;
 use crate::file::{read_instrumented, read_routine};
 use crate::instrument::instrument;
 use crate::layout::{MEMORY, TABLE};
-use crate::machine;
+use crate::machine::{self, Machine};
 use crate::number;
+use crate::plain;
 use crate::record::Record;
-use crate::refusal::{Refusal, LENT, ROOM};
+use crate::refusal::{Refusal, ROOM};
 
 /// What a case asks for.
 #[derive(Clone, Copy, Debug, PartialEq, Eq, PartialOrd, Ord)]
@@ -108,6 +109,8 @@ pub const MOST_OUTPUTS: usize = 1_024;
 pub const LARGEST_ROOM: usize = 40_960;
 pub const LARGEST_MEMORY: usize = MEMORY + 64;
 pub const LARGEST_TABLE: usize = TABLE + 64;
+/// The room that the controller brings for a version 2 file.
+const LONGEST_VERSION_2: usize = 32_768;
 
 impl Case {
     pub fn new(kind: Kind) -> Case {
@@ -184,6 +187,11 @@ impl Case {
 
     /// What this implementation answers.
     pub fn answer(&self) -> Answer {
+        self.answer_by(|machine| machine.run())
+    }
+
+    /// The same, with a word in how a machine gets to its stop.
+    pub fn answer_by(&self, go: impl FnOnce(Machine) -> Record) -> Answer {
         match self.kind {
             Kind::ReadNumber => self.read_number(),
             Kind::WriteNumber => self.write_number(),
@@ -192,9 +200,29 @@ impl Case {
             Kind::WriteInstrumented => self.write_instrumented(),
             Kind::Color => self.color(),
             Kind::Instrument => self.instrument(),
-            Kind::Run => self.run(),
-            Kind::Control => self.control(),
+            Kind::Run => self.run(go),
+            Kind::Control => self.control(go),
         }
+    }
+
+    /// How far a run goes by itself below a limit: its record alone. What is lent
+    /// is of the right length.
+    pub fn probe(&self, limit: u32) -> Record {
+        let mut memory = vec![0; MEMORY];
+        let mut table = vec![0; TABLE];
+        let mut output = vec![0; self.room as usize];
+        let mut version_2 = Vec::new();
+        let file = match self.kind {
+            Kind::Control => {
+                version_2.resize(LONGEST_VERSION_2, 0);
+                match instrument(&self.file, &mut version_2) {
+                    Ok(length) => &version_2[..length],
+                    Err(refusal) => return Record::refused(refusal),
+                }
+            }
+            _ => &self.file,
+        };
+        machine::run(file, &self.inputs, limit, &mut memory, &mut table, &mut output)
     }
 
     fn read_number(&self) -> Answer {
@@ -279,48 +307,55 @@ impl Case {
         }
     }
 
-    fn run(&self) -> Answer {
-        self.with_lent(|memory, table, output| {
-            machine::run(&self.file, &self.inputs, self.limit, memory, table, output)
-        })
+    fn run(&self, go: impl FnOnce(Machine) -> Record) -> Answer {
+        let Lent { mut memory, mut table, mut output } = self.lent();
+        let lent = machine::lent(&mut memory, &mut table);
+        let record = machine::run_by(&self.file, &self.inputs, self.limit, lent, &mut output, go);
+        Answer::of_run(record, &memory, &table, &output)
     }
 
-    /// Instruments into a room of its own and runs. 11 comes before all that
-    /// the file may be refused for.
-    fn control(&self) -> Answer {
-        self.with_lent(|memory, table, output| {
-            if memory.len() != MEMORY || table.len() != TABLE {
-                return Record::refused(Refusal::whole(LENT));
-            }
-            let mut room = vec![0; 32_768];
-            match instrument(&self.file, &mut room) {
-                Ok(length) => {
-                    let file = &room[..length];
-                    machine::run(file, &self.inputs, self.limit, memory, table, output)
-                }
-                Err(refusal) => Record::refused(refusal),
-            }
-        })
+    /// The plain rule says what record, memory and numbers out are. It has no
+    /// table: that is the machine's, which runs what the instrumenter makes.
+    fn control(&self, go: impl FnOnce(Machine) -> Record) -> Answer {
+        let Lent { mut memory, mut table, mut output } = self.lent();
+        // 11 comes before all that the file may be refused for, and the plain
+        // rule knows nothing of a table's length.
+        let record = match machine::lent(&mut memory, &mut table) {
+            Ok(_) => plain::run(&self.file, &self.inputs, self.limit, &mut memory, &mut output),
+            Err(refusal) => Record::refused(refusal),
+        };
+        if !record.is_refusal() {
+            self.run_instrumented(&mut table, go);
+        }
+        Answer::of_run(record, &memory, &table, &output)
     }
 
-    /// Lends filled memory, table and output room, and answers the record with
-    /// what they hold afterwards.
-    fn with_lent(&self, run: impl Fn(&mut [u8], &mut [u8], &mut [u32]) -> Record) -> Answer {
-        let mut memory = vec![self.fill; self.memory as usize];
-        let mut table = vec![self.fill; self.table as usize];
-        let mut output = vec![u32::from_le_bytes([self.fill; 4]); self.room as usize];
-        let record = run(&mut memory, &mut table, &mut output);
-        Answer([
-            record.reason,
-            record.place,
-            record.steps,
-            record.out,
-            record.taken,
-            digest_bytes(&memory),
-            digest_bytes(&table),
-            digest(output),
-        ])
+    /// Instruments into a room of its own and runs, for the sake of the table.
+    fn run_instrumented(&self, table: &mut [u8], go: impl FnOnce(Machine) -> Record) {
+        let mut version_2 = vec![0; LONGEST_VERSION_2];
+        if let Ok(length) = instrument(&self.file, &mut version_2) {
+            let Lent { mut memory, mut output, .. } = self.lent();
+            let lent = machine::lent(&mut memory, table);
+            let file = &version_2[..length];
+            machine::run_by(file, &self.inputs, self.limit, lent, &mut output, go);
+        }
     }
+
+    /// Filled memory, table and output room.
+    fn lent(&self) -> Lent {
+        Lent {
+            memory: vec![self.fill; self.memory as usize],
+            table: vec![self.fill; self.table as usize],
+            output: vec![u32::from_le_bytes([self.fill; 4]); self.room as usize],
+        }
+    }
+}
+
+/// What a run is lent.
+struct Lent {
+    memory: Vec<u8>,
+    table: Vec<u8>,
+    output: Vec<u32>,
 }
 
 fn words(bytes: &[u8]) -> Vec<u32> {
@@ -338,6 +373,20 @@ pub const ANSWER: usize = 4 * WORDS;
 impl Answer {
     fn refused(refusal: Refusal, room: u32) -> Answer {
         Answer([refusal.number, refusal.place, 0, 0, 0, room, 0, 0])
+    }
+
+    /// A record, with the digests of what was lent as it is afterwards.
+    fn of_run(record: Record, memory: &[u8], table: &[u8], output: &[u32]) -> Answer {
+        Answer([
+            record.reason,
+            record.place,
+            record.steps,
+            record.out,
+            record.taken,
+            digest_bytes(memory),
+            digest_bytes(table),
+            digest(output.iter().copied()),
+        ])
     }
 
     /// The first word: 0, a refusal's number, or a stop's.
@@ -359,17 +408,47 @@ impl Answer {
 const MODULUS: u64 = 4_294_967_291;
 const FACTOR: u64 = 16_777_619;
 
+fn turn(held: u64, number: u32) -> u64 {
+    (held * FACTOR + u64::from(number)) % MODULUS
+}
+
 /// The digest of a row of numbers below 2^32: from 1, for each number times the
 /// factor plus the number, modulo the largest prime below 2^32. Nothing in it
 /// passes 2^57.
 pub fn digest(numbers: impl IntoIterator<Item = u32>) -> u32 {
-    let turn = |held: u64, number: u32| (held * FACTOR + u64::from(number)) % MODULUS;
     numbers.into_iter().fold(1, turn) as u32
 }
 
-/// The digest of bytes, each one number.
+/// So many bytes are taken at once: the digest is a number written in powers of
+/// the factor, so a row of bytes is worth their sum, each times its power.
+const AT_ONCE: usize = 16;
+/// The factor to the powers 0, 1, .. `AT_ONCE`.
+const POWERS: [u64; AT_ONCE + 1] = powers();
+
+const fn powers() -> [u64; AT_ONCE + 1] {
+    let mut powers = [1; AT_ONCE + 1];
+    let mut at = 1;
+    while at <= AT_ONCE {
+        powers[at] = powers[at - 1] * FACTOR % MODULUS;
+        at += 1;
+    }
+    powers
+}
+
+/// The digest of bytes, each one number. Two numbers below the modulus times each
+/// other, and a third added, stay below 2^64.
 pub fn digest_bytes(bytes: &[u8]) -> u32 {
-    digest(bytes.iter().map(|&byte| u32::from(byte)))
+    let rows = bytes.chunks_exact(AT_ONCE);
+    let rest = rows.remainder();
+    let mut held = 1;
+    for row in rows {
+        let mut worth = 0;
+        for (&byte, power) in row.iter().rev().zip(POWERS) {
+            worth += u64::from(byte) * power;
+        }
+        held = (held * POWERS[AT_ONCE] + worth % MODULUS) % MODULUS;
+    }
+    rest.iter().fold(held, |held, &byte| turn(held, u32::from(byte))) as u32
 }
 
 /// Bytes in hexadecimal, for a case to be replayed.

@@ -9,6 +9,7 @@ use toltjebrim::gen::{cases, every, known, routines};
 use toltjebrim::instruction::Instruction::{self, *};
 use toltjebrim::layout::{extent, MEMORY};
 use toltjebrim::plain::{Plain, Rule};
+use toltjebrim::states::{Seen, State};
 use toltjebrim::wire::Kind;
 
 /// The address and width of a store that is under way.
@@ -172,6 +173,34 @@ fn every_number_is_reached_without_luck() {
         coverage.note(case.kind, case.answer().reason());
     }
     assert_eq!(coverage.missing(&Kind::ALL), []);
+}
+
+/// They reach every state too, for every kind that can.
+#[test]
+fn every_state_is_reached_without_luck() {
+    let mut coverage = Coverage::default();
+    for case in known::cases().into_iter().chain(every::cases()) {
+        let mut seen = Seen::default();
+        assert_eq!(seen.answer(&case), case.answer());
+        coverage.note_states(case.kind, &seen);
+    }
+    assert_eq!(coverage.missing_states(&Kind::ALL), []);
+}
+
+/// Cases from a seed reach the states as well, and so in many ways; but for the
+/// longest runs, of which there are few.
+#[test]
+fn cases_from_a_seed_reach_every_state() {
+    let mut coverage = Coverage::default();
+    for number in 0..30_000 {
+        let case = cases::case(54, number, &Kind::ALL);
+        let mut seen = Seen::default();
+        seen.answer(&case);
+        coverage.note_states(case.kind, &seen);
+    }
+    let mut missing = coverage.missing_states(&Kind::ALL);
+    missing.retain(|(state, _, _)| !matches!(state, State::Steps20 | State::LimitUsed20));
+    assert_eq!(missing, []);
 }
 
 /// Cases from a seed reach them all too, and not only by the opening ones.

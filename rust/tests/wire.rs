@@ -90,7 +90,11 @@ fn a_right_program_passes() {
     let output = trials(&["--program", &serve, "--cases", "6000", "--seed", "3"]);
     let (out, err) = (text(&output.stdout), text(&output.stderr));
     assert!(output.status.success(), "{}{}", out, err);
-    assert!(out.contains("6000 cases, 0 different, 0 numbers not reached"), "{}", out);
+    assert!(
+        out.contains("6000 cases, 0 different, 0 numbers not reached, 0 states not reached"),
+        "{}",
+        out
+    );
 }
 
 #[test]
@@ -106,6 +110,37 @@ fn a_wrong_program_is_found_out_and_the_case_replays() {
     assert_eq!(again.status.code(), Some(1));
     let right = format!("{} --serve", TRIALS);
     assert!(trials(&["--program", &right, "--replay", hex]).status.success());
+}
+
+/// The number of a case that a report tells is the one that replay takes, for an
+/// opening case and for one from the seed, and with some kinds alone.
+#[test]
+fn the_number_of_a_case_replays() {
+    let wrong = format!("{} --serve --spoil 8", TRIALS);
+    for more in [&["--seed", "9"][..], &["--seed", "7", "--kinds", "6"]] {
+        let mut words = vec!["--program", &wrong, "--cases", "3000"];
+        words.extend(more);
+        let out = text(&trials(&words).stdout);
+        let told: Vec<&str> = out.lines().filter_map(|line| line.strip_prefix("again: ")).collect();
+        assert_eq!(told.len(), 5, "{}", out);
+        for again in told {
+            let mut words = vec!["--program", &wrong];
+            words.extend(again.split(' '));
+            let shown = text(&trials(&words).stdout);
+            assert!(shown.contains("differs"), "{}", shown);
+        }
+    }
+}
+
+/// Bytes are digested many at once, to the same number as one by one.
+#[test]
+fn digests_of_bytes_at_once_and_one_by_one() {
+    for length in 0..200_u32 {
+        let bytes: Vec<u8> = (0..length).map(|n| (n * 91 + length) as u8).collect();
+        assert_eq!(digest_bytes(&bytes), digest(bytes.iter().map(|&byte| u32::from(byte))));
+    }
+    let most = vec![255; 57_408];
+    assert_eq!(digest_bytes(&most), digest(most.iter().map(|&byte| u32::from(byte))));
 }
 
 #[test]

@@ -2,7 +2,7 @@
 //! answer held to this implementation's own. `--self` holds the plain rule
 //! against instrumented code instead, with no other program.
 
-use std::io::{self, Read};
+use std::io::{self, Read, Write};
 use std::process::ExitCode;
 use std::time::{Instant, SystemTime, UNIX_EPOCH};
 use toltjebrim::coverage::{meaning, Coverage};
@@ -14,20 +14,25 @@ use toltjebrim::layout::{MEMORY, TABLE};
 use toltjebrim::lockstep::same_run;
 use toltjebrim::partner::{serve, Asked, Partner, Silence};
 use toltjebrim::shrink::shrink;
-use toltjebrim::wire::{from_hex, to_hex, Answer, Case, Kind};
+use toltjebrim::states::Seen;
+use toltjebrim::wire::{from_hex, to_hex, Answer, Case, Kind, HEADER};
 use toltjebrim::{machine, plain};
 
 const USAGE: &str = "\
 use: trials --program CMD [--cases N] [--seed S] [--kinds 1,3,8]
      trials --program CMD --replay HEX
+     trials --program CMD [--seed S] [--kinds 1,3,8] --replay NUMBER
      trials --self [--cases N] [--seed S]
      trials --self --replay HEX
+     trials --self [--seed S] --replay NUMBER
      trials --serve [--spoil R]
+     trials --emit [--cases N] [--seed S] [--kinds 1,3,8]
   CMD starts a program that reads cases and writes answers (PROTOCOL.md); the
   shell runs it if there is more to it than plain words
   S is a number, or the word fresh; HEX is a case in hexadecimal, or - for
-  standard input; --serve answers cases as such a program does, and with
-  --spoil wrongly wherever the first word should be R";
+  standard input; NUMBER is that of a case as a trial tells it; --serve answers cases as such a program does, and with
+  --spoil wrongly wherever the first word should be R; --emit writes the cases
+  themselves, as such a program reads them";
 
 /// After so many differences the trial ends; more would not tell more.
 const SHOWN: usize = 5;
@@ -39,12 +44,26 @@ struct Options {
     program: Option<String>,
     alone: bool,
     serve: bool,
+    emit: bool,
     /// To see that a wrong answer is noticed.
     spoil: Option<u64>,
     cases: u64,
     seed: u64,
     kinds: Vec<Kind>,
     replay: Option<String>,
+}
+
+impl Options {
+    /// What says, besides its number, which case is meant.
+    fn which(&self) -> String {
+        let mut words = format!("--seed {}", self.seed);
+        if self.kinds != Kind::ALL {
+            let kinds: Vec<String> =
+                self.kinds.iter().map(|&kind| (kind as u8).to_string()).collect();
+            words.push_str(&format!(" --kinds {}", kinds.join(",")));
+        }
+        words
+    }
 }
 
 fn main() -> ExitCode {
@@ -69,6 +88,7 @@ fn options(words: Vec<String>) -> Result<Options, String> {
         program: None,
         alone: false,
         serve: false,
+        emit: false,
         spoil: None,
         cases: 20_000,
         seed: 1,
@@ -82,6 +102,7 @@ fn options(words: Vec<String>) -> Result<Options, String> {
             "--program" => options.program = Some(value()?),
             "--self" => options.alone = true,
             "--serve" => options.serve = true,
+            "--emit" => options.emit = true,
             "--spoil" => options.spoil = Some(number(&value()?)?),
             "--cases" => options.cases = number(&value()?)?,
             "--seed" => options.seed = seed(&value()?)?,
@@ -90,9 +111,9 @@ fn options(words: Vec<String>) -> Result<Options, String> {
             _ => return Err(format!("{:?} is no option", word)),
         }
     }
-    let ways = [options.program.is_some(), options.alone, options.serve];
+    let ways = [options.program.is_some(), options.alone, options.serve, options.emit];
     if ways.iter().filter(|way| **way).count() != 1 {
-        return Err("say one of --program, --self and --serve".to_string());
+        return Err("say one of --program, --self, --serve and --emit".to_string());
     }
     Ok(options)
 }
@@ -124,12 +145,26 @@ fn carry_out(options: &Options) -> Result<(), String> {
         let answer = |case: &Case| spoiled(case.answer(), options.spoil);
         return serve(io::stdin().lock(), io::stdout().lock(), answer);
     }
+    if options.emit {
+        return emit(options).map_err(|error| format!("the cases cannot be written: {}", error));
+    }
     match (&options.program, &options.replay) {
-        (Some(program), Some(hex)) => replay(program, hex),
+        (Some(program), Some(word)) => replay(program, word, options),
         (Some(program), None) => against(program, options),
-        (None, Some(hex)) => replay_alone(hex),
+        (None, Some(word)) => replay_alone(word, options),
         (None, None) => alone(options),
     }
+}
+
+/// Writes the cases, and that no more follow.
+fn emit(options: &Options) -> io::Result<()> {
+    let mut output = io::BufWriter::new(io::stdout().lock());
+    let all = Cases::of(options);
+    for number in 0..options.cases {
+        output.write_all(&all.case(number).to_bytes())?;
+    }
+    output.write_all(&[0; HEADER])?;
+    output.flush()
 }
 
 fn spoiled(mut answer: Answer, spoil: Option<u64>) -> Answer {
@@ -168,16 +203,34 @@ impl Progress {
     }
 }
 
-/// The examples of the description and a case for every number first, then
-/// cases from the seed.
-fn all_cases(options: &Options) -> impl Iterator<Item = Asked> + Send {
-    let (seed, kinds, wanted) = (options.seed, options.kinds.clone(), options.cases);
-    let chosen = kinds.clone();
-    let known = known::cases().into_iter().chain(every::cases());
-    let known = known.filter(move |case| chosen.contains(&case.kind));
-    let made = (0..wanted).map(move |number| cases::case(seed, number, &kinds));
-    let numbered = (0..).zip(known.chain(made)).take(wanted as usize);
-    numbered.map(|(number, case)| Asked { number, expected: case.answer(), case })
+/// All cases of a trial by number: the examples of the description and a case for
+/// every number and state first, then those that the seed gives.
+struct Cases {
+    opening: Vec<Case>,
+    seed: u64,
+    kinds: Vec<Kind>,
+}
+
+impl Cases {
+    fn of(options: &Options) -> Cases {
+        let opening = known::cases().into_iter().chain(every::cases());
+        let opening = opening.filter(|case| options.kinds.contains(&case.kind));
+        Cases { opening: opening.collect(), seed: options.seed, kinds: options.kinds.clone() }
+    }
+
+    fn case(&self, number: u64) -> Case {
+        match self.opening.get(number as usize) {
+            Some(case) => case.clone(),
+            None => cases::case(self.seed, number - self.opening.len() as u64, &self.kinds),
+        }
+    }
+
+    fn asked(&self, number: u64) -> Asked {
+        let case = self.case(number);
+        let mut seen = Seen::default();
+        let expected = seen.answer(&case);
+        Asked { number, case, expected, seen }
+    }
 }
 
 fn against(program: &str, options: &Options) -> Result<(), String> {
@@ -186,9 +239,12 @@ fn against(program: &str, options: &Options) -> Result<(), String> {
     let mut different = Vec::new();
     let mut done = 0;
     let mut partner = Partner::start(program).map_err(|silence| silence.to_string())?;
-    let streamed = partner.stream(all_cases(options), |asked, answer| {
+    let all = Cases::of(options);
+    let asked = (0..options.cases).map(|number| all.asked(number));
+    let streamed = partner.stream(asked, |asked, answer| {
         done += 1;
         coverage.note(asked.case.kind, asked.expected.reason());
+        coverage.note_states(asked.case.kind, &asked.seen);
         if answer != asked.expected {
             different.push((asked.number, asked.case));
         }
@@ -204,39 +260,48 @@ fn against(program: &str, options: &Options) -> Result<(), String> {
             Err(words)
         }
     };
-    print!("{}", coverage.table(&options.kinds));
+    print!("{}{}", coverage.table(&options.kinds), coverage.state_table(&options.kinds));
     for (number, case) in different.iter() {
         println!("case {} of seed {} differs", number, options.seed);
+        println!("again: {} --replay {}", options.which(), number);
         show_small(program, case);
     }
     ended?;
-    verdict(&coverage, &options.kinds, done, different.len(), &progress)
+    verdict(&coverage, &options.kinds, true, done, different.len(), &progress)
 }
 
 fn verdict(
     coverage: &Coverage,
     kinds: &[Kind],
+    with_states: bool,
     done: u64,
     different: usize,
     progress: &Progress,
 ) -> Result<(), String> {
-    let missing = match different {
-        0 => coverage.missing(kinds),
-        _ => Vec::new(),
-    };
+    let (mut missing, mut states) = (Vec::new(), Vec::new());
+    if different == 0 {
+        missing = coverage.missing(kinds);
+        if with_states {
+            states = coverage.missing_states(kinds);
+        }
+    }
     for (kind, number) in &missing {
         println!("not reached: {} ({}) by {}", number, meaning(*number), kind.name());
     }
+    for (state, kind, part) in &states {
+        println!("not reached: {} (part {}) by {}", state.name(), part, kind.name());
+    }
     println!(
-        "{} cases, {} different, {} numbers not reached, {:.1} s",
+        "{} cases, {} different, {} numbers not reached, {} states not reached, {:.1} s",
         done,
         different,
         missing.len(),
+        states.len(),
         progress.seconds()
     );
-    match (different, missing.len()) {
+    match (different, missing.len() + states.len()) {
         (0, 0) => Ok(()),
-        (0, _) => Err("some numbers were not reached; more cases may reach them".to_string()),
+        (0, _) => Err("not all was reached; more cases may reach it".to_string()),
         _ => Err("the program answers otherwise".to_string()),
     }
 }
@@ -326,6 +391,14 @@ fn list(code: &[Instruction], with_sets: bool) {
     }
 }
 
+/// A word that is a case's number. A case in hexadecimal has 64 digits or more.
+fn case_number(word: &str) -> Option<u64> {
+    match word.len() < 20 {
+        true => word.parse().ok(),
+        false => None,
+    }
+}
+
 /// The case that stands in hexadecimal on the command line or the input.
 fn case_from(hex: &str) -> Result<Case, String> {
     let mut text = hex.to_string();
@@ -337,8 +410,11 @@ fn case_from(hex: &str) -> Result<Case, String> {
     Case::from_bytes(&from_hex(&text)?).map_err(|words| format!("this is no case: {}", words))
 }
 
-fn replay(program: &str, hex: &str) -> Result<(), String> {
-    let case = case_from(hex)?;
+fn replay(program: &str, word: &str, options: &Options) -> Result<(), String> {
+    let case = match case_number(word) {
+        Some(number) => Cases::of(options).case(number),
+        None => case_from(word)?,
+    };
     let answer = Partner::start(program).and_then(|mut partner| partner.ask(&case));
     show(&case, &answer);
     match answer {
@@ -364,6 +440,7 @@ fn alone(options: &Options) -> Result<(), String> {
             Err(words) => {
                 let small = shrink(case, |case| by_lockstep(case).is_err(), QUESTIONS);
                 describe(&small);
+                println!("again: --self --seed {} --replay {}", options.seed, number);
                 println!("replay: --self --replay {}", to_hex(&small.to_bytes()));
                 return Err(format!("case {}: {}", number, words));
             }
@@ -372,7 +449,7 @@ fn alone(options: &Options) -> Result<(), String> {
     }
     coverage.note(Kind::Control, both_refuse_short_memory()?);
     print!("{}", coverage.table(&[Kind::Control]));
-    verdict(&coverage, &[Kind::Control], options.cases, 0, &progress)
+    verdict(&coverage, &[Kind::Control], false, options.cases, 0, &progress)
 }
 
 /// 11 comes before anything is read, under either rule.
@@ -424,8 +501,11 @@ fn others_are_read_back(random: &mut Random) -> Result<(), String> {
     }
 }
 
-fn replay_alone(hex: &str) -> Result<(), String> {
-    let case = case_from(hex)?;
+fn replay_alone(word: &str, options: &Options) -> Result<(), String> {
+    let case = match case_number(word) {
+        Some(number) => self_case(&mut Random::for_case(options.seed, number)),
+        None => case_from(word)?,
+    };
     describe(&case);
     let record = same_run(&case.file, &case.inputs, case.room as usize, case.limit)?;
     println!("  both runs give {}", record);

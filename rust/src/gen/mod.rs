@@ -5,6 +5,7 @@
 pub mod cases;
 pub mod damaged;
 pub mod every;
+pub mod far;
 pub mod known;
 pub mod others;
 pub mod random;

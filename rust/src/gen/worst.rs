@@ -9,7 +9,8 @@ use crate::number;
 
 /// A version 1 file at some limit of the description.
 pub fn routine_file(random: &mut Random) -> Vec<u8> {
-    match random.below(5) {
+    match random.below(6) {
+        5 => at_a_count(random).write(),
         0 => largest(random, 16_384).write(),
         1 => {
             let slip = random.pick(&[16_383, 16_385]);
@@ -152,6 +153,22 @@ pub fn largest_instrumented(random: &mut Random) -> Instrumented {
         });
     }
     Instrumented { objects, colors: vec![255; MOST_OBJECTS], code }
+}
+
+/// A routine with the most objects, sets or instructions, or with one too many.
+pub fn at_a_count(random: &mut Random) -> Routine {
+    let more = random.index(2);
+    let mut routine = Routine {
+        objects: vec![Object::Global { size: 8 }],
+        sets: vec![vec![0]],
+        code: vec![Write8 { a: 0, b: 0, s: 0 }],
+    };
+    match random.below(3) {
+        0 => routine.objects = vec![Object::Global { size: 8 }; MOST_OBJECTS + more],
+        1 => routine.sets = vec![vec![0]; MOST_SETS + more],
+        _ => routine.code = vec![Set { d: 0, n: 0 }; 1_000 + more],
+    }
+    routine
 }
 
 /// So many classes of one object each, by WRITEs and by PUTs past the object.

@@ -11,6 +11,12 @@ Inv-loop bytes held₀ i₀ held i = Unit {0}
 abbrev μ-loop : tie.MeasureT-loop
 μ-loop bytes held₀ i₀ held i = length bytes - i
 
+digest-rows-requires : tie.Need-digest-rows-requires Inv-loop μ-loop
+digest-rows-requires c κs = search needs
+
+place-of-requires : tie.Need-place-of-requires Inv-loop μ-loop
+place-of-requires c κs = search needs
+
 loop-holds : tie.Need-loop-holds Inv-loop μ-loop
 loop-holds c = search needs
 
@@ -38,6 +44,8 @@ digest-bytes-spec =
     (tie.spec
     Inv-loop
     μ-loop
+    digest-rows-requires
+    place-of-requires
     loop-holds
     shared-slice-read-joined-byte
     joined-byte-requires
