@@ -1,5 +1,5 @@
 # The page of `./wit show --html`: one file with a picture, memory by color on the left, the unsafe stores on
-# the right with a line to each object they may write, and the stop of the run in red. `name` is the file's.
+# the right with a line to each object they may write, and the stop of the run in red. NAME is the file's.
 
 function escape(text) {
     gsub(/&/, "\\&amp;", text)
@@ -114,6 +114,7 @@ function draw_end(    what) {
 }
 
 END {
+    name = ENVIRON["NAME"]
     TOP = 130; LEFT = 80; WIDE = 330; RIGHT = 560
     map_memory()
     list_stores()

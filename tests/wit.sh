@@ -120,9 +120,9 @@ same 'the picture in README' "$(cat docs/plots-right-list.svg)" "$(sed -n '/<svg
 same 'the picture of a run with inputs' 1 "$(grep -c 'END at instruction 4: finished here' "$work/sum.html")"
 ./wit show "$sum" --html - 2>/dev/null >"$work/sum.html"
 same 'the picture of a run without' 1 "$(grep -c 'stopped here, 32' "$work/sum.html")"
-cp "$a" "$work/<b>&.routine"
-./wit show "$work/<b>&.routine" --html - 2>/dev/null >"$work/odd.html"
-same 'a name that is no markup' 1 "$(grep -c '<title>&lt;b&gt;&amp;.routine</title>' "$work/odd.html")"
+cp "$a" "$work/<b>&\\n.routine"
+./wit show "$work/<b>&\\n.routine" --html - 2>/dev/null >"$work/odd.html"
+same 'a name that is no markup' 1 "$(grep -c -F '<title>&lt;b&gt;&amp;\n.routine</title>' "$work/odd.html")"
 
 echo 'tests/wit.sh: mistakes in use'
 mistake 'nothing to do' 'say what to do'
