@@ -32,7 +32,7 @@ use Rattle.proved_set.specs.Examples.{versionTwo, zeros, runOf, numbersO
 given-nine-and-ten : fourBodies ≡ 28680 ∷ 28696 ∷ 28720 ∷ 28680 ∷ [] → heapAfter 2 3 ≡ 28672 ∷ 28656 ∷ 0 ∷ 0 ∷ [] → heapAfter 3 2 ≡ 28672 ∷ 28656 ∷ 0 ∷ 0 ∷ [] → ProvedSet
 unfolding readGroups groups readFile follow many membersPlan spellFile spellAll setsIn holds some meets join classesOf lowestFrom classesBelow colorOf tinted plainPiecesFrom total startOf guarded spanOf newPlace instrumented instrument bytesOf numberAt put fill colorAt everyByte putHeader emptyHeap placesIn blankMemory step runFrom runs tableRule paintGlobals blankTable firstTable runFile
 given-nine-and-ten nine ten ten′ =
-    (refl, (refl, (refl, (refl, (refl, (refl, (refl, (refl, (refl, (refl, (refl, (refl, (refl, (nine, (ten, (ten′, (refl, (refl, (refl, (refl, tt))))))))))))))))))))
+    (refl, (refl, (refl, (refl, (refl, (refl, (refl, (refl, (refl, (refl, (refl, (refl, (refl, (refl, (refl, (nine, (ten, (ten′, (refl, (refl, (refl, (refl, tt))))))))))))))))))))))
 
 -- ---- rows 9 and 10
 

@@ -29,6 +29,11 @@ abbrev pub bytesIn : Answer → List ℕ
 bytesIn (file bytes) = bytes
 bytesIn (Answer.refused q) = []
 
+-- the length of a file that was written, or the refusal's number and place
+abbrev pub answerIn : Answer → List ℕ
+answerIn (file bytes) = length bytes ∷ []
+answerIn (Answer.refused q) = q .number ∷ q .place ∷ []
+
 -- version 2 of a version 1 file
 abbrev pub versionTwo : (bytes : List ℕ) → List ℕ
 versionTwo bytes = bytesIn (instrument bytes 32768)
@@ -168,6 +173,9 @@ row n c s = record { example = n; computed = c; stated = s }
 abbrev pub rows : List Row
 rows =
     row 1 (versionTwo A) A₂
+    -- it just fits a room of 30, and not one of 29
+    ∷ row 1 (answerIn (instrument A 30)) (30 ∷ [])
+    ∷ row 1 (answerIn (instrument A 29)) (10 ∷ 0 ∷ [])
     ∷ row 2 (places (programIn (readFile 2 (versionTwo A)))) (8 ∷ 16 ∷ 24 ∷ 32 ∷ 40 ∷ [])
     ∷ row 2 (colorsAt (programIn (readFile 2 (versionTwo A))) (8 ∷ 16 ∷ 24 ∷ 32 ∷ [])) (0 ∷ 0 ∷ 2 ∷ 0 ∷ [])
     ∷ row 3
