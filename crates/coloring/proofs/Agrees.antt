@@ -21,9 +21,9 @@ use Rattle.files.specs.Program.{Program}
 use Rattle.files.specs.Reading.{Reading, whole, refusal, onWhole}
 use Rattle.files.specs.Held.{joined, endsFrom, filled, heldAs, held}
 use Rattle.files.proofs.RoundTrip.{Good}
-use Rattle.coloring.specs.declared.Nature.the-variants.{Listed}
+use Rattle.safety.specs.declared.Nature.the-variants.{Listed}
 use Rattle.coloring.specs.Class.{holds, Neighbours, Chain, last, link}
-use Rattle.coloring.specs.Unsafe.{unsafeSets}
+use Rattle.safety.specs.Unsafe.{unsafeSets}
 use Rattle.coloring.specs.Colored.{tinted, withColors, colorIn, classCount, colored}
 use Rattle.coloring.specs.Labels.{leaders, painted, marksIn, usedIn, labelsIn, heldWith, painting}
 use Rattle.files.proofs.Tests.{no-test}

@@ -15,10 +15,10 @@ use Rattle.files.specs.Held.{joined, endsFrom, filled, line, heldAs}
 use Rattle.files.proofs.Filled.{getD-filled, getD-filled-map}
 use Rattle.files.proofs.RoundTrip.{Good, lines-bounds}
 use Rattle.coloring.specs.Class.{holds}
-use Rattle.coloring.specs.Nature.{sizesIn}
+use Rattle.safety.specs.Nature.{sizesIn}
 use Rattle.coloring.specs.Labels.{InRange}
 use Rattle.coloring.proofs.Members.{holds-at}
-use Rattle.coloring.proofs.Natures.{sizes-inside, sizes-past}
+use Rattle.safety.proofs.Natures.{sizes-inside, sizes-past}
 use Rattle.coloring.proofs.Joining.{below-or}
 use Rattle.coloring.proofs.Marking.{sizes, CodeAt}
 use Rattle.coloring.proofs.Bounds.{sets-most, member-below, joined-most}

@@ -19,11 +19,11 @@ use Rattle.files.specs.Held.{joined}
 use Rattle.files.proofs.Tests.{no-test, both-left, both-right, every-head, every-tail}
 use Rattle.files.proofs.GoodInstructions.{Names, names}
 use Rattle.files.proofs.RoundTrip.{Good, set-good}
-use Rattle.coloring.specs.declared.Nature.{Nature}
-use Rattle.coloring.specs.declared.Nature.the-variants as nature
-use Rattle.coloring.specs.Nature.{putNature, natureOf}
+use Rattle.safety.specs.declared.Nature.{Nature}
+use Rattle.safety.specs.declared.Nature.the-variants as nature
+use Rattle.safety.specs.Nature.{putNature, natureOf}
 use Rattle.coloring.specs.Class.{holds, unsafeObject}
-use Rattle.coloring.specs.Unsafe.{unsafeSets}
+use Rattle.safety.specs.Unsafe.{unsafeSets}
 use Rattle.coloring.proofs.Members.{holds-cases, holds-nil}
 use Rattle.coloring.proofs.Chains.{some-place}
 use Rattle.coloring.proofs.Marking.{Named, here, there, sizes, From, own, listed, set-from, place-in}

@@ -14,10 +14,10 @@ use Rattle.files.specs.declared.Line.{Line}
 use Rattle.files.specs.Program.{Program}
 use Rattle.files.specs.Held.{line}
 use Rattle.opcodes.specs.View.{Aim, inGlobal, atTemp, View, act, jump, jumpIf, store, check, view, bytes}
-use Rattle.coloring.specs.declared.Nature.{Nature}
-use Rattle.coloring.specs.declared.Nature.the-variants.{Safe, Own, Listed, Jump, Check, Other}
-use Rattle.coloring.specs.Nature.{natureOf, sizesIn}
-use Rattle.coloring.specs.Unsafe.{sizeOf, safePut, Unsafe, unsafeSet, setsIn}
+use Rattle.safety.specs.declared.Nature.{Nature}
+use Rattle.safety.specs.declared.Nature.the-variants.{Safe, Own, Listed, Jump, Check, Other}
+use Rattle.safety.specs.Nature.{natureOf, sizesIn}
+use Rattle.safety.specs.Unsafe.{sizeOf, safePut, Unsafe, unsafeSet, setsIn}
 use Rattle.coloring.specs.Class.{holds, Neighbours, Chain, last}
 use Rattle.coloring.specs.Labels.{touched, ownMarked, useMarked, ownsMarked, usesMarked}
 use Rattle.files.proofs.Tests.{no-test}

@@ -5,7 +5,7 @@ use mathlib.Core.Path.{_≡_, refl, _∙_, ap}
 use mathlib.Core.List.{List, [], _∷_, map}
 use lib.ListN.{length, getD}
 use Rattle.files.specs.declared.Object.{Object}
-use Rattle.coloring.specs.Unsafe.{sizeOf}
+use Rattle.safety.specs.Unsafe.{sizeOf}
 use Rattle.coloring.specs.Colored.{tinted}
 
 pub tinted-length : (color : ℕ → ℕ) (from : ℕ) (os : List Object) → length (tinted color from os) ≡ length os

@@ -7,7 +7,7 @@ use lib.Dec.{leb}
 use Rattle.files.specs.declared.Object.{Object}
 use Rattle.files.specs.Program.{Program}
 use Rattle.files.specs.Reading.{Reading, whole, refusal, onWhole}
-use Rattle.coloring.specs.Unsafe.{unsafeSets}
+use Rattle.safety.specs.Unsafe.{unsafeSets}
 use Rattle.coloring.specs.Color.{classesBelow, colorOf}
 
 -- the objects from number `from` on, each with its color

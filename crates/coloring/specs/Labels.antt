@@ -13,8 +13,8 @@ use Rattle.files.specs.declared.Loaded.{Loaded}
 use Rattle.opcodes.specs.View.{view}
 use Rattle.files.specs.Reading.{Reading, refusal}
 use Rattle.files.specs.Held.{line, held}
-use Rattle.coloring.specs.declared.Nature.{Nature}
-use Rattle.coloring.specs.Nature.{natureOf, sizesIn}
+use Rattle.safety.specs.declared.Nature.{Nature}
+use Rattle.safety.specs.Nature.{natureOf, sizesIn}
 
 -- ---- joining classes
 

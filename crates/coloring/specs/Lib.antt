@@ -1,5 +1,3 @@
-pub mod Unsafe
-pub mod Nature
 pub mod Class
 pub mod Color
 pub mod Colored

@@ -4,15 +4,15 @@
 // Each set that an unsafe instruction names is gone through once, and the labels are gone through only
 // where two classes become one, which happens fewer times than there are objects. So the cost is at
 // most the instructions, the members of the sets and 400 * objects.
-use super::Nature;
-use super::safety::nature_of;
 use files::Line;
 use opcodes::Instr;
+use safety::Nature;
+use safety::nature_of;
 ghost use mathlib.Core.Path.{_≡_};
 ghost use Prim.Native.Nat.{_+_, _-_, _≤_, _<_};
 ghost use lib.ListN.{getD};
 ghost use Rattle.opcodes.specs.View.{view};
-ghost use Rattle.coloring.specs.Nature.{natureOf, sizesIn};
+ghost use Rattle.safety.specs.Nature.{natureOf, sizesIn};
 ghost use Rattle.coloring.specs.Labels.{touched, renamed, relabelled, united, spanJoined, setsJoined, ownMarked, useMarked, ownsMarked, usesMarked};
 
 // No object has this number.

@@ -1,7 +1,7 @@
-// Coloring: which stores are safe, which objects form a class, and the color of each object.
+// Coloring: which objects form a class, and the color of each object.
 //
-// A routine is read and its objects get 01's colors. `safety` says what each instruction is; `labels`
-// finds the classes; `painting` numbers them.
+// A routine is read and its objects get 01's colors. The crate `safety` says what each instruction is;
+// `labels` finds the classes; `painting` numbers them.
 use files::Line;
 use files::Loaded;
 use files::Outcome;
@@ -20,21 +20,6 @@ ghost use Rattle.coloring.specs.Labels.{InRange, painting};
 
 mod labels;
 mod painting;
-pub mod safety;
-
-// What an instruction is to the coloring.
-pub enum Nature {
-    // A store that cannot leave its global's extent.
-    Safe,
-    // An unsafe store with the set of this object alone.
-    Own(usize),
-    // An unsafe store with the set of this number.
-    Listed(usize),
-    // A jump to this instruction.
-    Jump(usize),
-    Check,
-    Other,
-}
 
 // There are colors for 254 classes. Of a refused routine everything is blank but the refusal.
 fn too_many() -> Loaded

@@ -12,9 +12,9 @@ use Rattle.opcodes.specs.View.{view}
 use Rattle.opcodes.proofs.Instr.{the-type}
 use borrow.Author.Tests.{eq-eqb, ne-eqb}
 use Rattle.instrumenter.specs.Arrays.{checkFor, startIn, firstIn, checkNature, checkIn}
-use Rattle.coloring.specs.declared.Nature.{Nature}
-use Rattle.coloring.specs.Nature.{natureOf, sizesIn}
-use Rattle.coloring.proofs.Nature
+use Rattle.safety.specs.declared.Nature.{Nature}
+use Rattle.safety.specs.Nature.{natureOf, sizesIn}
+use Rattle.safety.proofs.Nature
 use Rattle.opcodes.specs.Moved.{moved}
 
 -- the opcodes that are no store, and those that are copied as they are
@@ -98,7 +98,7 @@ module _ (sizes colors ends members : List ℕ) (i : Instr) (n : Nature) (is : n
       ∙ ap (checkNature colors ends members (view i)) (sym listed ∙ is)
 
   -- the natures that have no check
-  none : (m : Nature) → OneOf (0 ∷ 3 ∷ 4 ∷ 5 ∷ []) (tagOf Rattle.coloring.proofs.Nature.the-type m) → [] ≡ checkNature colors ends members (view i) m
+  none : (m : Nature) → OneOf (0 ∷ 3 ∷ 4 ∷ 5 ∷ []) (tagOf Rattle.safety.proofs.Nature.the-type m) → [] ≡ checkNature colors ends members (view i) m
   none Nature.Safe h = refl
   none (Nature.Own g) h = absurd (miss (0 ∷ 3 ∷ 4 ∷ 5 ∷ []) 1 tt h)
   none (Nature.Listed s) h = absurd (miss (0 ∷ 3 ∷ 4 ∷ 5 ∷ []) 2 tt h)
@@ -106,6 +106,6 @@ module _ (sizes colors ends members : List ℕ) (i : Instr) (n : Nature) (is : n
   none Nature.Check h = refl
   none Nature.Other h = refl
 
-  pub check-none : OneOf (0 ∷ 3 ∷ 4 ∷ 5 ∷ []) (tagOf Rattle.coloring.proofs.Nature.the-type n) → [] ≡ checkIn sizes colors ends members i
+  pub check-none : OneOf (0 ∷ 3 ∷ 4 ∷ 5 ∷ []) (tagOf Rattle.safety.proofs.Nature.the-type n) → [] ≡ checkIn sizes colors ends members i
   unfolding checkIn
   check-none h = none n h ∙ ap (checkNature colors ends members (view i)) is

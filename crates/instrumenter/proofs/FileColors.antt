@@ -7,7 +7,7 @@ use lib.ListN.{length}
 use borrow.Author.Tests.{leb-true}
 use Rattle.files.specs.Program.{Program}
 use Rattle.files.specs.Writing.{goodProgram}
-use Rattle.coloring.specs.Unsafe.{unsafeSets}
+use Rattle.safety.specs.Unsafe.{unsafeSets}
 use Rattle.coloring.specs.Class.{unsafeObject}
 use Rattle.coloring.specs.Colored.{colorIn, classCount, fewClasses}
 use Rattle.coloring.proofs.Colors.{color-safe, color-low, color-high}

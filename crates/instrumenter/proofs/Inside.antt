@@ -7,8 +7,8 @@ use mathlib.Core.Bool.{true, false}
 use lib.ListN.{length, getD}
 use Rattle.files.specs.Program.{Program}
 use Rattle.opcodes.specs.View.{Aim, inGlobal, atTemp, store}
-use Rattle.coloring.specs.Unsafe.{safeAim, setOf, Unsafe, unsafeSet}
-use Rattle.coloring.proofs.Stores.{unsafe-one}
+use Rattle.safety.specs.Unsafe.{safeAim, setOf, Unsafe, unsafeSet}
+use Rattle.safety.proofs.Stores.{unsafe-one}
 use Rattle.coloring.specs.Class.{holds, unsafeObject}
 use Rattle.coloring.proofs.Members.{some-here, holds-here, holds-at}
 use Rattle.coloring.proofs.Bounds.{member-below}

@@ -10,7 +10,7 @@ use borrow.Author.Tests.{le-leb, lt-ltb, ltb-true}
 use Rattle.opcodes.specs.Ranges.{within}
 use Rattle.files.specs.Program.{Program, kindsOf}
 use Rattle.files.specs.Writing.{every, goodObject, goodInstr, scopeOf, goodProgram, spellFile}
-use Rattle.coloring.specs.Unsafe.{unsafeSets}
+use Rattle.safety.specs.Unsafe.{unsafeSets}
 use Rattle.coloring.specs.Colored.{tinted, colorIn, fewClasses}
 use Rattle.coloring.proofs.Tinted.{tinted-length}
 use Rattle.instrumenter.specs.Instrumented.{checksOf, guarded, newPlace, instrumented}

@@ -16,7 +16,7 @@ use Rattle.opcodes.specs.declared.Instr.the-variants.{End, Place, Add, Sub, Les
 use Rattle.files.specs.Program.{Program}
 use Rattle.files.specs.Writing.{spellAll, spellObject, spellInstr, spellFile}
 use Rattle.opcodes.specs.View.{Aim, inGlobal, atTemp, View, act, jump, jumpIf, store, check, view, checkInstr, one, four}
-use Rattle.coloring.specs.Unsafe.{safeAim, setOf}
+use Rattle.safety.specs.Unsafe.{safeAim, setOf}
 use Rattle.coloring.specs.Colored.{tinted}
 use Rattle.coloring.proofs.Tinted.{tinted-length}
 use Rattle.instrumenter.specs.Instrumented.{checksOf, checkOf, guarded, newPlace, instrumented}

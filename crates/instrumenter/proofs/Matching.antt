@@ -13,11 +13,11 @@ use Rattle.files.specs.Program.{Program}
 use Rattle.files.specs.Writing.{every, goodInstr, scopeOf}
 use Rattle.opcodes.specs.View.{inGlobal, atTemp, View, act, jump, jumpIf, store, check, view, checkInstr, bytes}
 use Rattle.files.specs.Held.{filled, endsFrom, joined}
-use Rattle.coloring.specs.Unsafe.{sizeOf, safePut, safeAim, Unsafe}
+use Rattle.safety.specs.Unsafe.{sizeOf, safePut, safeAim, Unsafe}
 use Rattle.coloring.specs.Color.{colorOfSet}
 use Rattle.coloring.specs.Colored.{tinted}
-use Rattle.coloring.specs.declared.Nature.{Nature}
-use Rattle.coloring.specs.Nature.{putNature, natureOf, sizesIn}
+use Rattle.safety.specs.declared.Nature.{Nature}
+use Rattle.safety.specs.Nature.{putNature, natureOf, sizesIn}
 use Rattle.coloring.proofs.Tinted.{tinted-size}
 use Rattle.instrumenter.specs.Instrumented.{checksOf, checkOf, guarded, spanOf}
 use Rattle.instrumenter.specs.Arrays.{checkFor, firstIn, checkNature, checkIn}

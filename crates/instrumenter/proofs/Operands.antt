@@ -15,7 +15,7 @@ use Rattle.opcodes.specs.Ranges.{Scope, within, isColor, isKind}
 use Rattle.files.specs.Program.{Program, kindsOf}
 use Rattle.files.specs.Writing.{both, every, goodObject, goodInstr, scopeOf}
 use Rattle.opcodes.specs.View.{View, act, jump, jumpIf, store, check, view, checkInstr}
-use Rattle.coloring.specs.Unsafe.{safeAim, setOf, unsafeSet, setsIn, unsafeSets}
+use Rattle.safety.specs.Unsafe.{safeAim, setOf, unsafeSet, setsIn, unsafeSets}
 use Rattle.coloring.specs.Class.{holds, unsafeObject}
 use Rattle.coloring.proofs.Members.{some-behind}
 use Rattle.coloring.specs.Colored.{tinted}

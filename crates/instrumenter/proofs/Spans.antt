@@ -10,8 +10,8 @@ use Rattle.opcodes.specs.declared.Instr.{Instr}
 use Rattle.files.specs.Program.{Program}
 use Rattle.opcodes.specs.Moved.{moved}
 use Rattle.opcodes.specs.View.{Aim, View, act, jump, jumpIf, store, check, view, checkInstr}
-use Rattle.coloring.specs.Unsafe.{safeAim, setOf, Unsafe}
-use Rattle.coloring.proofs.Stores.{safe-none, unsafe-one}
+use Rattle.safety.specs.Unsafe.{safeAim, setOf, Unsafe}
+use Rattle.safety.proofs.Stores.{safe-none, unsafe-one}
 use Rattle.instrumenter.specs.Instrumented.{checksOf, checkOf, guarded, spanOf, newPlace}
 use Rattle.coloring.specs.Color.{colorOfSet}
 

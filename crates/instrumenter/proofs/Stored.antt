@@ -12,7 +12,7 @@ use Rattle.files.specs.declared.Line.{Line}
 use Rattle.files.proofs.Tabulated.{length-tabulate, getD-tabulate-zero}
 use Rattle.files.proofs.Filled.{getD-filled, getD-filled-map, instrs-lines}
 use Rattle.files.specs.Held.{filled, line, endsFrom, joined, tabulate}
-use Rattle.coloring.specs.Unsafe.{sizeOf}
+use Rattle.safety.specs.Unsafe.{sizeOf}
 use Rattle.coloring.specs.Colored.{tinted}
 use Rattle.coloring.proofs.Tinted.{tinted-color}
 use Rattle.instrumenter.specs.Arrays.{startIn, firstIn, instrsIn}

@@ -11,8 +11,8 @@ use Rattle.files.specs.declared.Line.{Line}
 use Rattle.files.specs.declared.Loaded.{Loaded}
 use Rattle.opcodes.specs.View.{View, act, jump, jumpIf, store, check, view, checkInstr}
 use Rattle.files.specs.Held.{filled, line}
-use Rattle.coloring.specs.declared.Nature.{Nature}
-use Rattle.coloring.specs.Nature.{natureOf, sizesIn}
+use Rattle.safety.specs.declared.Nature.{Nature}
+use Rattle.safety.specs.Nature.{natureOf, sizesIn}
 use Rattle.instrumenter.specs.declared.checks.Before.{Before}
 use Rattle.instrumenter.specs.Instrumented.{guarded, spanOf}
 

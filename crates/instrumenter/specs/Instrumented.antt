@@ -6,7 +6,7 @@ use Rattle.opcodes.specs.declared.Instr.{Instr}
 use Rattle.opcodes.specs.View.{View, view, checkInstr}
 use Rattle.opcodes.specs.Moved.{moved}
 use Rattle.files.specs.Program.{Program}
-use Rattle.coloring.specs.Unsafe.{unsafeIn}
+use Rattle.safety.specs.Unsafe.{unsafeIn}
 use Rattle.coloring.specs.Color.{colorOfSet}
 use Rattle.coloring.specs.Colored.{tinted}
 

@@ -1,7 +1,7 @@
 // One instruction in version 2: its check, where it is unsafe, and its copy.
-use coloring::Nature;
-use coloring::safety::nature_of;
 use opcodes::Instr;
+use safety::Nature;
+use safety::nature_of;
 ghost use mathlib.Core.Path.{_≡_};
 ghost use lib.ListN.{getD};
 ghost use Rattle.opcodes.specs.View.{view};

@@ -12,8 +12,8 @@ use borrow.Author.Tests.{ne-eqb, le-leb}
 use Rattle.opcodes.specs.declared.Instr.{Instr}
 use Rattle.files.specs.Program.{Program}
 use Rattle.opcodes.specs.View.{one, four, Aim, inGlobal, atTemp, store, view}
-use Rattle.coloring.specs.Unsafe.{safeAim, setOf, Unsafe, unsafeSet, setsIn, unsafeSets}
-use Rattle.coloring.proofs.Stores.{unsafe-one}
+use Rattle.safety.specs.Unsafe.{safeAim, setOf, Unsafe, unsafeSet, setsIn, unsafeSets}
+use Rattle.safety.proofs.Stores.{unsafe-one}
 use Rattle.coloring.specs.Class.{holds, some, unsafeObject}
 use Rattle.coloring.proofs.Members.{some-here, some-behind, holds-at}
 use Rattle.heap.specs.Memory.{memorySize, inside}

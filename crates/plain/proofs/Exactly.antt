@@ -7,9 +7,9 @@ use mathlib.Core.Bool.{true, false}
 use lib.ListN.{length}
 use Rattle.files.specs.Program.{Program}
 use Rattle.opcodes.specs.View.{Aim, store, check, view}
-use Rattle.coloring.specs.Unsafe.{safeAim, setOf, Unsafe, unsafeIn}
+use Rattle.safety.specs.Unsafe.{safeAim, setOf, Unsafe, unsafeIn}
 use Rattle.coloring.specs.Color.{colorOfSet}
-use Rattle.coloring.proofs.Stores.{unsafeStore, unsafe-one, Stores, stores}
+use Rattle.safety.proofs.Stores.{unsafeStore, unsafe-one, Stores, stores}
 use Rattle.layout.specs.Layout.{startOf}
 use Rattle.heap.specs.Memory.{hasColor, everyByte}
 use Rattle.routines.specs.Accepted.{plainPieces, Accepted}

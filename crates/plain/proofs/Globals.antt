@@ -13,7 +13,7 @@ use borrow.Author.Tests.{eq-eqb, ne-eqb, eqb-true, leb-true}
 use Rattle.files.specs.declared.Object.{Object}
 use Rattle.files.specs.Program.{Program}
 use Rattle.opcodes.specs.View.{extent}
-use Rattle.coloring.specs.Unsafe.{unsafeSets, sizeOf}
+use Rattle.safety.specs.Unsafe.{unsafeSets, sizeOf}
 use Rattle.coloring.specs.Class.{unsafeObject}
 use Rattle.coloring.specs.Colored.{tinted}
 use Rattle.layout.specs.Layout.{Piece, piecesOf, startOf, endOf, fits}

@@ -7,10 +7,10 @@ use lib.ListN.{length}
 use Rattle.files.specs.Program.{Program}
 use Rattle.opcodes.specs.declared.Instr.{Instr}
 use Rattle.opcodes.specs.View.{view, checkInstr}
-use Rattle.coloring.specs.Unsafe.{Unsafe, unsafeIn, unsafeSets}
+use Rattle.safety.specs.Unsafe.{Unsafe, unsafeIn, unsafeSets}
 use Rattle.coloring.specs.Color.{colorOfSet}
 use Rattle.coloring.specs.Colored.{colorIn}
-use Rattle.coloring.proofs.Stores.{unsafeStore, Stores, stores}
+use Rattle.safety.proofs.Stores.{unsafeStore, Stores, stores}
 use Rattle.coloring.proofs.Colors.{color-apart, color-together}
 use Rattle.routines.specs.Accepted.{Accepted}
 use Rattle.instrumenter.specs.Instrumented.{spanOf, newPlace, instrumented}

@@ -26,8 +26,8 @@ use borrow.Author.Tests.{ltb-true, ltb-false, leb-true, eqb-true}
 use Rattle.opcodes.specs.declared.Instr.{Instr}
 use Rattle.files.specs.Program.{Program}
 use Rattle.opcodes.specs.View.{Aim, inGlobal, atTemp, Act, View, act, jump, jumpIf, store, check, view, extent}
-use Rattle.coloring.specs.Unsafe.{safeAim, setOf, Unsafe, unsafeIn, sizeOf}
-use Rattle.coloring.proofs.Stores.{unsafeStore, safe-none, unsafe-one}
+use Rattle.safety.specs.Unsafe.{safeAim, setOf, Unsafe, unsafeIn, sizeOf}
+use Rattle.safety.proofs.Stores.{unsafeStore, safe-none, unsafe-one}
 use Rattle.layout.specs.Layout.{startOf, fits}
 use Rattle.instrumenter.proofs.Guarded.{movedView, view-moved, view-check}
 use Rattle.heap.specs.Memory.{memorySize, colorAt, bytesOf, put, everyByte, inside}

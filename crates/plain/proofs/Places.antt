@@ -13,7 +13,7 @@ use borrow.Author.Tests.{ltb-true, ltb-false}
 use Rattle.opcodes.specs.declared.Instr.{Instr}
 use Rattle.files.specs.Program.{Program}
 use Rattle.opcodes.specs.View.{View, act, jump, jumpIf, store, check, view}
-use Rattle.coloring.specs.Unsafe.{setOf}
+use Rattle.safety.specs.Unsafe.{setOf}
 use Rattle.instrumenter.proofs.Guarded.{movedView, view-moved, view-check}
 use Rattle.machine.specs.Stop.{counts, placesIn, placeIn}
 use Rattle.machine.proofs.Places.{places-more}

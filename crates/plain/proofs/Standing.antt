@@ -8,7 +8,7 @@ use Rattle.opcodes.specs.declared.Instr.{Instr}
 use Rattle.opcodes.specs.View.{view, checkInstr}
 use Rattle.opcodes.specs.Moved.{moved}
 use Rattle.files.specs.Program.{Program}
-use Rattle.coloring.specs.Unsafe.{Unsafe, unsafeIn}
+use Rattle.safety.specs.Unsafe.{Unsafe, unsafeIn}
 use Rattle.coloring.specs.Color.{colorOfSet}
 use Rattle.plain.specs.Guards.{instrAt, Stands, Guards}
 

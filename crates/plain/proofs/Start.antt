@@ -8,7 +8,7 @@ use mathlib.Core.Bool.{true, false}
 use lib.ListN.{length, length-replicate, getD-replicate}
 use Rattle.files.specs.declared.Object.{Object}
 use Rattle.files.specs.Program.{Program}
-use Rattle.coloring.specs.Unsafe.{unsafeSets}
+use Rattle.safety.specs.Unsafe.{unsafeSets}
 use Rattle.coloring.specs.Colored.{tinted}
 use Rattle.layout.specs.Layout.{fits, piecesOf}
 use Rattle.plain.specs.Guards.{Guards}

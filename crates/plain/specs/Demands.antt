@@ -11,7 +11,7 @@ use Rattle.files.specs.Program.{Program}
 use Rattle.files.specs.Reading.{Reading, whole, refusal, readFile}
 use Rattle.files.specs.Writing.{goodProgram, spellFile, Says}
 use Rattle.refusals.specs.Why.{Why}
-use Rattle.coloring.specs.Unsafe.{Unsafe, unsafeIn}
+use Rattle.safety.specs.Unsafe.{Unsafe, unsafeIn}
 use Rattle.coloring.specs.Class.{holds, Chain, sameClass}
 use Rattle.coloring.specs.Color.{Legal, Keeps, Numbering, colorOfSet, colorOf}
 use Rattle.coloring.specs.Colored.{colorIn, classCount}

@@ -9,7 +9,7 @@ use Rattle.opcodes.specs.declared.Instr.{Instr}
 use Rattle.files.specs.Program.{Program}
 use Rattle.opcodes.specs.View.{view, checkInstr}
 use Rattle.opcodes.specs.Moved.{moved}
-use Rattle.coloring.specs.Unsafe.{Unsafe, unsafeIn, unsafeSets}
+use Rattle.safety.specs.Unsafe.{Unsafe, unsafeIn, unsafeSets}
 use Rattle.coloring.specs.Class.{unsafeObject, sameClass}
 use Rattle.coloring.specs.Color.{colorOfSet}
 use Rattle.coloring.specs.Colored.{tinted}

@@ -8,7 +8,7 @@ use lib.Dec.{eqb}
 use Rattle.files.specs.declared.Object.{Object}
 use Rattle.files.specs.Program.{Program}
 use Rattle.opcodes.specs.View.{View, extent}
-use Rattle.coloring.specs.Unsafe.{Unsafe, unsafeIn, unsafeSets}
+use Rattle.safety.specs.Unsafe.{Unsafe, unsafeIn, unsafeSets}
 use Rattle.coloring.specs.Class.{sameClass}
 use Rattle.layout.specs.Layout.{Piece, startOf}
 use Rattle.routines.specs.Accepted.{plainPieces}

@@ -9,7 +9,7 @@ use Rattle.numbers.specs.Number.{readGroups, groups}
 use Rattle.files.specs.Program.{Program}
 use Rattle.files.specs.Reading.{whole, refusal, follow, many, membersPlan, readFile}
 use Rattle.files.specs.Writing.{spellFile, spellAll}
-use Rattle.coloring.specs.Unsafe.{setsIn}
+use Rattle.safety.specs.Unsafe.{setsIn}
 use Rattle.coloring.specs.Class.{holds, some, meets, join, classesOf}
 use Rattle.coloring.specs.Color.{lowestFrom, classesBelow, colorOf}
 use Rattle.coloring.specs.Colored.{tinted}

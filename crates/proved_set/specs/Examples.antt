@@ -13,7 +13,7 @@ use Rattle.files.specs.declared.Object.{Object}
 use Rattle.files.specs.Program.{Program}
 use Rattle.files.specs.Reading.{Reading, whole, readFile}
 use Rattle.files.specs.Writing.{spellFile}
-use Rattle.coloring.specs.Unsafe.{safeAim}
+use Rattle.safety.specs.Unsafe.{safeAim}
 use Rattle.coloring.specs.Colored.{colorIn}
 use Rattle.layout.specs.Layout.{startOf, endOf, piecesOf}
 use Rattle.instrumenter.specs.Answer.{Answer, file, instrument}

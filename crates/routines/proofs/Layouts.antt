@@ -9,7 +9,7 @@ use lib.Dec.{eqb}
 use borrow.Author.Tests.{eq-eqb, ne-eqb}
 use Rattle.files.specs.declared.Object.{Object}
 use Rattle.files.specs.Program.{Program}
-use Rattle.coloring.specs.Unsafe.{unsafeSets}
+use Rattle.safety.specs.Unsafe.{unsafeSets}
 use Rattle.coloring.specs.Class.{unsafeObject}
 use Rattle.coloring.specs.Colored.{tinted, colorIn}
 use Rattle.coloring.proofs.Colors.{color-safe, color-low}

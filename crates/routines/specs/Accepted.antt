@@ -7,7 +7,7 @@ use Rattle.files.specs.declared.Object.{Object}
 use Rattle.files.specs.Program.{Program}
 use Rattle.files.specs.Reading.{Reading, whole, refusal, onWhole}
 use Rattle.files.specs.Writing.{goodProgram}
-use Rattle.coloring.specs.Unsafe.{unsafeSets}
+use Rattle.safety.specs.Unsafe.{unsafeSets}
 use Rattle.coloring.specs.Class.{unsafeObject}
 use Rattle.coloring.specs.Colored.{fewClasses, classed}
 use Rattle.layout.specs.Layout.{Piece, fits}

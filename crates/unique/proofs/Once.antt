@@ -7,7 +7,7 @@ use denote.Ref.{RefT}
 use Rattle.reader.specs.declared.Reader.{Reader}
 use Rattle.machine.specs.declared.Run.{Run}
 use Rattle.machine.specs.Running.{Lent, Answer, lentOf, answered}
-use Rattle.unique.specs.Once.{Once, numbers-read-number, numbers-number-width, numbers-write-number, reader-open, reader-after, reader-number, reader-read-at, opcodes-row-of, opcodes-last-opcode, opcodes-is-present, opcodes-is-within, opcodes-is-color, opcodes-is-allowed, opcodes-instr-of, opcodes-parts-of, files-read-routine, files-read-program, writer-write-program, coloring-read-colored, coloring-nature, coloring-nature-of, layout-lay-out, heap-fill, heap-load8, heap-load32, heap-store8, heap-store32, heap-check8, heap-check32, heap-paint, heap-start, heap-alloc, heap-free, instrumenter-instrument, machine-run-file, controller-control, controller-numbers-of, controller-toltjebrim-control}
+use Rattle.unique.specs.Once.{Once, numbers-read-number, numbers-number-width, numbers-write-number, reader-open, reader-after, reader-number, reader-read-at, opcodes-row-of, opcodes-last-opcode, opcodes-is-present, opcodes-is-within, opcodes-is-color, opcodes-is-allowed, opcodes-instr-of, opcodes-parts-of, files-read-routine, files-read-program, writer-write-program, safety-by-opcode, safety-nature-of, coloring-read-colored, layout-lay-out, heap-fill, heap-load8, heap-load32, heap-store8, heap-store32, heap-check8, heap-check32, heap-paint, heap-start, heap-alloc, heap-free, instrumenter-instrument, machine-run-file, controller-control, controller-numbers-of, controller-toltjebrim-control}
 
 -- ---- the law, and its forms for several values
 
@@ -99,16 +99,18 @@ files-read-program-once file = once
 pub writer-write-program-once : writer-write-program
 writer-write-program-once p room = pair-once
 
+-- ---- safety
+
+pub safety-by-opcode-once : safety-by-opcode
+safety-by-opcode-once opcode x y z size = once
+
+pub safety-nature-of-once : safety-nature-of
+safety-nature-of-once i sizes = once
+
 -- ---- coloring
 
 pub coloring-read-colored-once : coloring-read-colored
 coloring-read-colored-once file = once
-
-pub coloring-nature-once : coloring-nature
-coloring-nature-once opcode x y z size = once
-
-pub coloring-nature-of-once : coloring-nature-of
-coloring-nature-of-once i sizes = once
 
 -- ---- layout
 

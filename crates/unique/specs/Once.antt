@@ -22,8 +22,8 @@ use Rattle.files.specs.declared.Loaded.{Loaded}
 use Rattle.files.specs.declared.Written as FileWritten
 use Rattle.files.specs.Reading.{readFile}
 use Rattle.files.specs.Held.{held, writtenIn, roomWith}
+use Rattle.safety.specs.Nature.{natureOf, sizesIn}
 use Rattle.coloring.specs.Colored.{colored}
-use Rattle.coloring.specs.Nature.{natureOf, sizesIn}
 use Rattle.layout.specs.Arrays.{piecesIn, layoutOf}
 use Rattle.heap.specs.declared.Allocation.{Allocation}
 use Rattle.heap.specs.declared.Release.{Release}
@@ -109,16 +109,18 @@ writer-write-program =
     (p : Loaded) (room : List ℕ)
     → Once {A = FileWritten.Written × List ℕ} (λ (r, room′). (r ≡ writtenIn room p) × (room′ ≡ roomWith room p))
 
+-- ---- safety
+
+abbrev pub safety-by-opcode : Type 0
+safety-by-opcode = (opcode x y z size : ℕ) → Once (λ r. r ≡ natureOf (λ g. size) (view (make opcode x y z)))
+
+abbrev pub safety-nature-of : Type 0
+safety-nature-of = (i : Instr) (sizes : List ℕ) → Once (λ r. r ≡ natureOf (sizesIn sizes) (view i))
+
 -- ---- coloring
 
 abbrev pub coloring-read-colored : Type 0
 coloring-read-colored = (file : List ℕ) → Once (λ r. r ≡ held (colored (readFile 1 file)))
-
-abbrev pub coloring-nature : Type 0
-coloring-nature = (opcode x y z size : ℕ) → Once (λ r. r ≡ natureOf (λ g. size) (view (make opcode x y z)))
-
-abbrev pub coloring-nature-of : Type 0
-coloring-nature-of = (i : Instr) (sizes : List ℕ) → Once (λ r. r ≡ natureOf (sizesIn sizes) (view i))
 
 -- ---- layout
 

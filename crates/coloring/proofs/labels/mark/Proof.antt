@@ -8,10 +8,10 @@ use borrow.Author.Needs.{needs}
 use borrow.Author.Tests.{lt-ltb, le-ltb}
 use types.Run.{OneOf, miss}
 use denote.Enum.Declared.{tagOf}
-use Rattle.coloring.specs.declared.Nature.{Nature}
-use Rattle.coloring.specs.declared.Nature.the-variants.{Safe, Own, Listed, Jump, Check, Other}
+use Rattle.safety.specs.declared.Nature.{Nature}
+use Rattle.safety.specs.declared.Nature.the-variants.{Safe, Own, Listed, Jump, Check, Other}
 use Rattle.coloring.specs.Labels.{touched, ownMarked, useMarked}
-use Rattle.coloring.proofs.Nature.{the-type}
+use Rattle.safety.proofs.Nature.{the-type}
 use Rattle.coloring.proofs.labels.mark.Statement.{statement}
 use Rattle.coloring.proofs.labels.mark.Tie as tie
 

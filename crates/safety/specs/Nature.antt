@@ -1,12 +1,12 @@
--- What an instruction is to the coloring, as the contract of `nature` says it; no demand cites it.
+-- What an instruction is, as the contract of `by_opcode` says it; no demand cites it.
 use Prim.Native.Nat.{ℕ}
 use mathlib.Core.Bool.{true, false}
 use mathlib.Core.List.{List}
 use lib.ListN.{getD}
 use lib.Dec.{ltb}
 use Rattle.opcodes.specs.View.{Aim, inGlobal, atTemp, View, act, jump, jumpIf, store, check, bytes}
-use Rattle.coloring.specs.declared.Nature.{Nature}
-use Rattle.coloring.specs.Unsafe.{safePut}
+use Rattle.safety.specs.declared.Nature.{Nature}
+use Rattle.safety.specs.Unsafe.{safePut}
 
 -- "Every other PUT is unsafe with the set {g}": of n bytes at byte k of global g
 abbrev pub putNature : (size g k n : ℕ) → Nature

@@ -2,10 +2,10 @@
 use mathlib.Core.Path.{sym, _∙_}
 use mathlib.Core.Logic.{⊎-elim}
 use borrow.Author.Needs.{needs}
-use Rattle.coloring.specs.Nature.{sizesIn}
-use Rattle.coloring.proofs.Natures.{nature-whole, sizes-inside, sizes-past}
-use Rattle.coloring.proofs.safety.nature_of.Statement.{statement}
-use Rattle.coloring.proofs.safety.nature_of.Tie as tie
+use Rattle.safety.specs.Nature.{sizesIn}
+use Rattle.safety.proofs.Natures.{nature-whole, sizes-inside, sizes-past}
+use Rattle.safety.proofs.nature_of.Statement.{statement}
+use Rattle.safety.proofs.nature_of.Tie as tie
 
 parts-of-requires : tie.Need-parts-of-requires
 parts-of-requires c κs = search needs
@@ -19,14 +19,14 @@ mul-size c = search needs
 element-copy-out-size : tie.Need-element-copy-out-size
 element-copy-out-size c = search needs
 
-nature-requires : tie.Need-nature-requires
-nature-requires c κs = search needs
+by-opcode-requires : tie.Need-by-opcode-requires
+by-opcode-requires c κs = search needs
 
 returns : tie.Need-returns
 returns c =
     let r = c .before .before .before .parts-of in
     let sizes = denote.Ref.now (c .before .before .before .before .args .sizes) in
-    c .nature .ensures
+    c .by-opcode .ensures
     ∙ nature-whole
     (sizesIn sizes)
     (c .before .before .before .before .args .i)
@@ -41,4 +41,4 @@ returns c =
 pub nature-of-spec : {M : Type 1} → statement M
 nature-of-spec =
     tie.close
-    (tie.spec parts-of-requires cast-g mul-size element-copy-out-size nature-requires returns)
+    (tie.spec parts-of-requires cast-g mul-size element-copy-out-size by-opcode-requires returns)

@@ -5,7 +5,7 @@ use mathlib.Core.List.{List, [], _∷_}
 use mathlib.Core.Bool.{Bool, true, false}
 use Rattle.files.specs.Program.{Program}
 use Rattle.opcodes.specs.View.{Aim, View, act, jump, jumpIf, store, check}
-use Rattle.coloring.specs.Unsafe.{safeAim, setOf, Unsafe, unsafeIn}
+use Rattle.safety.specs.Unsafe.{safeAim, setOf, Unsafe, unsafeIn}
 
 -- an unsafe store, as it counts for the classes
 abbrev pub unsafeStore : Program → Aim → (s : ℕ) → Unsafe

@@ -5,9 +5,9 @@ use mathlib.Core.Bool.{Bool, true, false}
 use borrow.Author.Needs.{needs}
 use borrow.Author.Tests.{le-leb, lt-leb}
 use Rattle.opcodes.specs.View.{extent}
-use Rattle.coloring.specs.declared.Nature.{Nature}
-use Rattle.coloring.proofs.safety.put.Statement.{statement}
-use Rattle.coloring.proofs.safety.put.Tie as tie
+use Rattle.safety.specs.declared.Nature.{Nature}
+use Rattle.safety.proofs.put.Statement.{statement}
+use Rattle.safety.proofs.put.Tie as tie
 
 abbrev pick : ℕ → Bool → Nature
 pick g safe = elim safe [ true ↦ Nature.Safe | false ↦ Nature.Own g ]

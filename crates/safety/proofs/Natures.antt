@@ -11,8 +11,8 @@ use Rattle.opcodes.specs.declared.Parts.{Parts}
 use Rattle.opcodes.specs.Table.{make, partsOf}
 use Rattle.opcodes.specs.View.{view}
 use Rattle.opcodes.proofs.Parting.{make-parts}
-use Rattle.coloring.specs.declared.Nature.{Nature}
-use Rattle.coloring.specs.Nature.{putNature, natureOf, sizesIn}
+use Rattle.safety.specs.declared.Nature.{Nature}
+use Rattle.safety.specs.Nature.{putNature, natureOf, sizesIn}
 
 module _ (size : ℕ → ℕ) (op x y z : ℕ) where
   abbrev made : Nature

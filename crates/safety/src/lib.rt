@@ -1,11 +1,27 @@
-// What each instruction is to the coloring, decided by its opcode number and its operands.
-use super::Nature;
+// Safety: which stores are safe, and which set an unsafe one has.
+//
+// What an instruction is, is decided by its opcode number, its operands and the sizes of the globals; classes
+// and colors come later and elsewhere.
 use opcodes::Instr;
 use opcodes::making::parts_of;
 ghost use mathlib.Core.Path.{_≡_};
 ghost use Rattle.opcodes.specs.Table.{make};
 ghost use Rattle.opcodes.specs.View.{view};
-ghost use Rattle.coloring.specs.Nature.{putNature, natureOf, sizesIn};
+ghost use Rattle.safety.specs.Nature.{putNature, natureOf, sizesIn};
+
+// What an instruction is: a store, and of which kind, or something else.
+pub enum Nature {
+    // A store that cannot leave its global's extent.
+    Safe,
+    // An unsafe store with the set of this object alone.
+    Own(usize),
+    // An unsafe store with the set of this number.
+    Listed(usize),
+    // A jump to this instruction.
+    Jump(usize),
+    Check,
+    Other,
+}
 
 // A PUT of `bytes` bytes at byte `k` of global `g`: safe where its last byte lies inside the size
 // rounded up to eight.
@@ -22,7 +38,7 @@ fn put(g: u32, k: u32, bytes: u32, size: u16) -> Nature
 
 // What the instruction with this opcode number and these operands is; `size` is the size of the
 // global that a PUT names.
-pub fn nature(opcode: u32, x: u32, y: u32, z: u32, size: u16) -> Nature
+pub fn by_opcode(opcode: u32, x: u32, y: u32, z: u32, size: u16) -> Nature
     ensures { λ r. ⌜ r ≡ natureOf (λ g. size) (view (make opcode x y z)) ⌝ }
 {
     match opcode {
@@ -43,5 +59,5 @@ pub fn nature_of(i: Instr, sizes: &[u16; 400]) -> Nature
     let parts = parts_of(i);
     let g = parts.x as usize;
     let size = if g < 400 { sizes[g] } else { 0 };
-    nature(parts.op, parts.x, parts.y, parts.z, size)
+    by_opcode(parts.op, parts.x, parts.y, parts.z, size)
 }

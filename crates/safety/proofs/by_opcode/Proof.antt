@@ -1,10 +1,10 @@
--- `nature` meets its contract: each arm's numbers are opcodes whose instruction has that nature.
+-- `by_opcode` meets its contract: each arm's numbers are opcodes whose instruction has that nature.
 use mathlib.Core.Path.{sym, _∙_}
 use native.Mathlib.Omega.{arith}
 use borrow.Author.Needs.{needs}
-use Rattle.coloring.proofs.Natures.{at-8, at-9, at-12, at-13, at-writes, at-checks, at-others}
-use Rattle.coloring.proofs.safety.nature.Statement.{statement}
-use Rattle.coloring.proofs.safety.nature.Tie as tie
+use Rattle.safety.proofs.Natures.{at-8, at-9, at-12, at-13, at-writes, at-checks, at-others}
+use Rattle.safety.proofs.by_opcode.Statement.{statement}
+use Rattle.safety.proofs.by_opcode.Tie as tie
 
 put-requires : tie.Need-put-requires
 put-requires c κs = search needs
@@ -39,8 +39,8 @@ returns-8 c = sym (at-others (λ g. c .before .before .before .before .args .siz
 returns-9 : tie.Need-returns-9
 returns-9 c = sym (at-others (λ g. c .before .before .before .before .before .args .size) (c .before .before .before .before .before .args .opcode) (c .before .before .before .before .before .args .x) (c .before .before .before .before .before .args .y) (c .before .before .before .before .before .args .z) (omega arith) (omega arith))
 
-pub nature-spec : {M : Type 1} → statement M
-nature-spec =
+pub by-opcode-spec : {M : Type 1} → statement M
+by-opcode-spec =
     tie.close
     (tie.spec
     put-requires

@@ -1,0 +1,2 @@
+pub mod Unsafe
+pub mod Nature
