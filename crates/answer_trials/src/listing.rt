@@ -5,8 +5,8 @@ use crate::digest::joined;
 use crate::lent::word;
 use files::Line;
 use files::Loaded;
+use instructions::parts_of;
 use opcodes::Parts;
-use opcodes::making::parts_of;
 
 fn wide(n: u16) -> u32 {
     n as u32

@@ -9,7 +9,8 @@ use borrow.Author.Tests.{ltb-true, leb-true, eqb-true}
 use Rattle.numbers.specs.declared.Cursor.{Cursor}
 use Rattle.numbers.specs.declared.Refusal.{Refusal}
 use Rattle.numbers.specs.declared.Read.{Read}
-use Rattle.opcodes.proofs.Bounds.{within-bounds, kind-below, roof}
+use Rattle.opcodes.proofs.Bounds.{within-bounds, kind-below}
+use Rattle.instructions.proofs.Whole.{roof}
 use Rattle.opcodes.specs.declared.Operand.{Operand}
 use Rattle.opcodes.specs.declared.Scope as declared
 use Rattle.files.specs.declared.InstrRead.{InstrRead}

@@ -13,7 +13,7 @@ use Rattle.files.specs.declared.Ended.{Ended}
 use Rattle.files.specs.declared.objects.Objects.{Objects}
 use Rattle.files.specs.declared.sets.SetRead.{SetRead}
 use Rattle.files.specs.declared.sets.Sets.{Sets}
-use Rattle.files.specs.declared.instructions.Code.{Code}
+use Rattle.files.specs.declared.lines.Code.{Code}
 use Rattle.files.specs.Inside.{Are, ObjectsHeld, ObjectsAre, SetIs, SetsHeld, SetsAre, CodeHeld, CodeIs}
 use Rattle.files.specs.Parsing.{Parsed, got, refused, cursor}
 

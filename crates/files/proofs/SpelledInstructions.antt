@@ -11,7 +11,7 @@ use Rattle.numbers.specs.declared.Cursor.{Cursor}
 use Rattle.numbers.specs.declared.Read.{Read}
 use Rattle.numbers.specs.Number.{spell}
 use Rattle.opcodes.proofs.Bounds.{within-bounds, within-true, last-most, kind-below}
-use Rattle.opcodes.proofs.Parting.{Blank, parts, parts-make, make-parts}
+use Rattle.instructions.proofs.Parting.{Blank, parts, parts-make, make-parts}
 use Rattle.opcodes.specs.declared.Operand.{Operand}
 use Rattle.opcodes.specs.declared.Instr.{Instr}
 use Rattle.files.specs.declared.InstrRead.{InstrRead}

@@ -14,7 +14,7 @@ use Rattle.files.specs.declared.Outcome.{Outcome}
 use Rattle.files.specs.declared.Ended.{Ended}
 use Rattle.files.specs.declared.objects.Objects.{Objects}
 use Rattle.files.specs.declared.sets.Sets.{Sets}
-use Rattle.files.specs.declared.instructions.Code.{Code}
+use Rattle.files.specs.declared.lines.Code.{Code}
 use Rattle.opcodes.specs.Ranges.{hasSets, within}
 use Rattle.files.specs.Program.{kindsOf, longest, mostCode}
 use Rattle.files.specs.Reading.{Reading, whole, refusal, judged, readFile}

@@ -19,7 +19,7 @@ use Rattle.files.specs.declared.Loaded.{Loaded}
 use Rattle.files.specs.declared.objects.Objects.{Objects}
 use Rattle.files.specs.declared.sets.SetRead.{SetRead}
 use Rattle.files.specs.declared.sets.Sets.{Sets}
-use Rattle.files.specs.declared.instructions.Code.{Code}
+use Rattle.files.specs.declared.lines.Code.{Code}
 use Rattle.opcodes.specs.Ranges.{hasSets, within}
 use Rattle.files.specs.Program.{mostCode}
 use Rattle.files.specs.Reading.{isMember, refusal, judged}

@@ -12,7 +12,7 @@ ghost use Rattle.files.specs.Held.{held};
 
 mod blank; // blank.rt: arrays of which nothing counts yet
 mod fields; // fields.rt: numbers in their ranges
-mod instructions; // instructions.rt: the instructions of a file
+mod lines; // lines.rt: the instructions of a file
 mod objects; // objects.rt: the objects of a file
 mod reading; // reading.rt: whole files
 mod sets; // sets.rt: the sets of a file

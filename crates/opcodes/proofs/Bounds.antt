@@ -1,15 +1,12 @@
 -- What the tests for the ranges say of a number.
 use Prim.Native.Nat.{ℕ, _<_, _≤_}
-use mathlib.Core.Path.{_≡_, refl, ap, _∙_}
+use mathlib.Core.Path.{_≡_, refl}
 use mathlib.Core.List.{List}
 use mathlib.Core.Bool.{Bool, true, false}
 use native.Mathlib.Omega.{arith}
 use lib.ListN.{length, getD}
 use lib.Dec.{ltb, leb, eqb}
 use borrow.Author.Tests.{eqb-true, leb-true, ltb-true, le-leb, lt-ltb}
-use Rattle.opcodes.specs.declared.Operand.{Operand}
-use Rattle.opcodes.specs.Table.{rowOf, make}
-use Rattle.opcodes.specs.Making.{fit, made}
 use Rattle.opcodes.specs.Ranges.{lastOpcode, within, isColor, isKind}
 
 -- a number from low to high
@@ -48,34 +45,3 @@ last-most version = go (eqb version 1)
     go : (b : Bool) → elim b as (λ _. ℕ) [ true ↦ 17 | false ↦ 21 ] ≤ 21
     go true = omega arith
     go false = omega arith
-
--- ---- the field of an operand holds the whole of a number below its roof
-
-abbrev pub roof : Operand → ℕ
-roof Operand.None = 1
-roof Operand.Temporary = 256
-roof Operand.Number = 4294967296
-roof Operand.Global = 65536
-roof Operand.Site = 65536
-roof Operand.Set = 65536
-roof Operand.Offset = 65536
-roof Operand.Target = 65536
-roof Operand.Color = 256
-
-fits : (kind : Operand) (n : ℕ) → n < roof kind → fit kind n ≡ n
-fits Operand.None n h = omega arith
-fits Operand.Temporary n h = omega arith
-fits Operand.Number n h = refl
-fits Operand.Global n h = omega arith
-fits Operand.Site n h = omega arith
-fits Operand.Set n h = omega arith
-fits Operand.Offset n h = omega arith
-fits Operand.Target n h = omega arith
-fits Operand.Color n h = omega arith
-
-pub made-whole : (op x y z : ℕ) → x < roof (rowOf op .first) → y < roof (rowOf op .second) → z < roof (rowOf op .third)
-    → made op x y z ≡ make op x y z
-made-whole op x y z f g h =
-    ap (λ (n : ℕ). make op n (fit (rowOf op .second) y) (fit (rowOf op .third) z)) (fits (rowOf op .first) x f)
-    ∙ ap (λ (n : ℕ). make op x n (fit (rowOf op .third) z)) (fits (rowOf op .second) y g)
-    ∙ ap (make op x y) (fits (rowOf op .third) z h)

@@ -4,8 +4,5 @@
 -- given; nothing is asked of a caller. The constant table of the code is the definition's, row by row
 -- (`table.row_of`).
 --
--- About the definitions, for the crates above: an instruction and its parts are two forms of one thing
--- (`Parting.parts-make`, `Parting.make-parts`); what a number that passes a test lies between or names, and that
--- operands in their ranges are held whole (`Bounds`).
+-- About the definitions, for the crates above: what a number that passes a test lies between or names (`Bounds`).
 pub mod Bounds
-pub mod Parting

@@ -4,7 +4,6 @@
 // Every function answers for every number that it can be given.
 pub mod table; // table.rt: the rows, and which operands a version has
 pub mod ranges; // ranges.rt: the numbers that an operand may be
-pub mod making; // making.rt: an instruction made of its opcode and operands, and taken apart
 
 // What an operand of an instruction names, and so its range; `None` where there is no operand.
 pub enum Operand {

@@ -10,7 +10,7 @@ use Rattle.opcodes.specs.declared.Instr.the-variants.{End, Place, Add, Sub, Les
 use Rattle.opcodes.specs.declared.Parts.{Parts}
 use Rattle.opcodes.specs.Table.{make, partsOf}
 use Rattle.opcodes.specs.View.{view}
-use Rattle.opcodes.proofs.Parting.{make-parts}
+use Rattle.instructions.proofs.Parting.{make-parts}
 use Rattle.safety.specs.declared.Nature.{Nature}
 use Rattle.safety.specs.Nature.{putNature, natureOf, sizesIn}
 

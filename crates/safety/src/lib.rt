@@ -2,8 +2,8 @@
 //
 // What an instruction is, is decided by its opcode number, its operands and the sizes of the globals; classes
 // and colors come later and elsewhere.
+use instructions::parts_of;
 use opcodes::Instr;
-use opcodes::making::parts_of;
 ghost use mathlib.Core.Path.{_≡_};
 ghost use Rattle.opcodes.specs.Table.{make};
 ghost use Rattle.opcodes.specs.View.{view};

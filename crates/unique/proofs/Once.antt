@@ -7,7 +7,20 @@ use denote.Ref.{RefT}
 use Rattle.reader.specs.declared.Reader.{Reader}
 use Rattle.machine.specs.declared.Run.{Run}
 use Rattle.machine.specs.Running.{Lent, Answer, lentOf, answered}
-use Rattle.unique.specs.Once.{Once, numbers-read-number, numbers-number-width, numbers-write-number, reader-open, reader-after, reader-number, reader-read-at, opcodes-row-of, opcodes-last-opcode, opcodes-is-present, opcodes-is-within, opcodes-is-color, opcodes-is-allowed, opcodes-instr-of, opcodes-parts-of, files-read-routine, files-read-program, writer-write-program, safety-by-opcode, safety-nature-of, coloring-read-colored, layout-lay-out, heap-fill, heap-load8, heap-load32, heap-store8, heap-store32, heap-check8, heap-check32, heap-paint, heap-start, heap-alloc, heap-free, instrumenter-instrument, machine-run-file, controller-control, controller-numbers-of, controller-toltjebrim-control}
+use Rattle.unique.specs.Once.{Once}
+use Rattle.unique.specs.Once.{numbers-read-number, numbers-number-width, numbers-write-number}
+use Rattle.unique.specs.Once.{reader-open, reader-after, reader-number, reader-read-at}
+use Rattle.unique.specs.Once.{opcodes-row-of, opcodes-last-opcode, opcodes-is-present, opcodes-is-within, opcodes-is-color, opcodes-is-allowed}
+use Rattle.unique.specs.Once.{instructions-instr-of, instructions-parts-of}
+use Rattle.unique.specs.Once.{files-read-routine, files-read-program}
+use Rattle.unique.specs.Once.{writer-write-program}
+use Rattle.unique.specs.Once.{safety-by-opcode, safety-nature-of}
+use Rattle.unique.specs.Once.{coloring-read-colored}
+use Rattle.unique.specs.Once.{layout-lay-out}
+use Rattle.unique.specs.Once.{heap-fill, heap-load8, heap-load32, heap-store8, heap-store32, heap-check8, heap-check32, heap-paint, heap-start, heap-alloc, heap-free}
+use Rattle.unique.specs.Once.{instrumenter-instrument}
+use Rattle.unique.specs.Once.{machine-run-file}
+use Rattle.unique.specs.Once.{controller-control, controller-numbers-of, controller-toltjebrim-control}
 
 -- ---- the law, and its forms for several values
 
@@ -80,11 +93,13 @@ opcodes-is-color-once n = once
 pub opcodes-is-allowed-once : opcodes-is-allowed
 opcodes-is-allowed-once kinds scope kind n = once
 
-pub opcodes-instr-of-once : opcodes-instr-of
-opcodes-instr-of-once op x y z = once
+-- ---- instructions
 
-pub opcodes-parts-of-once : opcodes-parts-of
-opcodes-parts-of-once i = once
+pub instructions-instr-of-once : instructions-instr-of
+instructions-instr-of-once op x y z = once
+
+pub instructions-parts-of-once : instructions-parts-of
+instructions-parts-of-once i = once
 
 -- ---- files
 

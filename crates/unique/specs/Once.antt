@@ -15,7 +15,7 @@ use Rattle.opcodes.specs.declared.Instr.{Instr}
 use Rattle.opcodes.specs.declared.Operand.{Operand}
 use Rattle.opcodes.specs.declared.Scope.{Scope}
 use Rattle.opcodes.specs.Table.{rowOf, make, partsOf}
-use Rattle.opcodes.specs.Making.{made}
+use Rattle.instructions.specs.Making.{made}
 use Rattle.opcodes.specs.Ranges.{lastOpcode, within, isColor, present, scopeOver, allowed}
 use Rattle.opcodes.specs.View.{view}
 use Rattle.files.specs.declared.Loaded.{Loaded}
@@ -88,11 +88,13 @@ abbrev pub opcodes-is-allowed : Type 0
 opcodes-is-allowed =
     (kinds : List ℕ) (scope : Scope) (kind : Operand) (n : ℕ) → Once (λ r. r ≡ allowed (scopeOver scope kinds) kind n)
 
-abbrev pub opcodes-instr-of : Type 0
-opcodes-instr-of = (op x y z : ℕ) → Once (λ r. r ≡ made op x y z)
+-- ---- instructions
 
-abbrev pub opcodes-parts-of : Type 0
-opcodes-parts-of = (i : Instr) → Once (λ r. r ≡ partsOf i)
+abbrev pub instructions-instr-of : Type 0
+instructions-instr-of = (op x y z : ℕ) → Once (λ r. r ≡ made op x y z)
+
+abbrev pub instructions-parts-of : Type 0
+instructions-parts-of = (i : Instr) → Once (λ r. r ≡ partsOf i)
 
 -- ---- files
 

@@ -1,10 +1,10 @@
 // The measuring pass: how many bytes each part of a program takes, and whether a file can say it. Every
 // field is judged by the table that the reader goes by.
 use files::Line;
+use instructions::parts_of;
 use opcodes::Instr;
 use opcodes::Operand;
 use opcodes::Scope;
-use opcodes::making::parts_of;
 use opcodes::ranges::is_allowed;
 use opcodes::ranges::is_color;
 use opcodes::ranges::is_within;

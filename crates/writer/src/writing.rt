@@ -1,7 +1,7 @@
 // The writing pass: the numbers of a program, one after the other, into a room where they fit.
 use files::Line;
+use instructions::parts_of;
 use opcodes::Instr;
-use opcodes::making::parts_of;
 use opcodes::table::is_present;
 use opcodes::table::row_of;
 ghost use mathlib.Core.Path.{_≡_};

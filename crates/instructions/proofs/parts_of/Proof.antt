@@ -1,9 +1,9 @@
 -- `parts_of` meets its contract: in each arm the instruction is the arm's own.
 use mathlib.Core.Path.{sym, ap, _∙_}
 use borrow.Author.Needs.{needs}
 use Rattle.opcodes.specs.Table.{partsOf}
-use Rattle.opcodes.proofs.making.parts_of.Statement.{statement}
-use Rattle.opcodes.proofs.making.parts_of.Tie as tie
+use Rattle.instructions.proofs.parts_of.Statement.{statement}
+use Rattle.instructions.proofs.parts_of.Tie as tie
 
 enum-told : tie.Need-enum-told
 enum-told c = search needs

@@ -64,14 +64,14 @@ use Rattle.reader.proofs.after as after
 use Rattle.reader.proofs.after.Symbol as after-def
 use Rattle.reader.proofs.after.Symbol.{name as #reader·after}
 use Rattle.reader.proofs.after.Met as after-thm
-use Rattle.files.proofs.instructions.instruction as instruction
-use Rattle.files.proofs.instructions.instruction.Symbol as instruction-def
-use Rattle.files.proofs.instructions.instruction.Symbol.{name as #files·instruction}
-use Rattle.files.proofs.instructions.instruction.Met as instruction-thm
-use Rattle.files.proofs.instructions.instr_at.Key.{name as #files·instr-at}
-use Rattle.files.proofs.instructions.instr_at as instr-at
-use Rattle.files.proofs.instructions.instr_at.Statement as stated
-use Rattle.files.proofs.instructions.instr_at.Code as code
+use Rattle.files.proofs.lines.instruction as instruction
+use Rattle.files.proofs.lines.instruction.Symbol as instruction-def
+use Rattle.files.proofs.lines.instruction.Symbol.{name as #files·instruction}
+use Rattle.files.proofs.lines.instruction.Met as instruction-thm
+use Rattle.files.proofs.lines.instr_at.Key.{name as #files·instr-at}
+use Rattle.files.proofs.lines.instr_at as instr-at
+use Rattle.files.proofs.lines.instr_at.Statement as stated
+use Rattle.files.proofs.lines.instr_at.Code as code
 use Rattle.files.specs.Parsing.{readInstr}
 
 abbrev stayed : Stays (instr-at.ended .signature .params) (instr-at.ended .kept)
@@ -240,4 +240,4 @@ instr-at-spec 𝓤 H 𝓜 𝓖 𝓡 =
     (instr-at-meets 𝓤 H (𝓖 .A) (givenOf 𝓤 H 𝓜 𝓖) (𝓜 .mem) (𝓡 .run) (tablesOf 𝓤 H 𝓜 (tables 𝓤 H 𝓜 𝓡 code.env))
     (cited 𝓤 H (Open 𝓤 H (𝓖 .A) (𝓜 .mem) (𝓡 .run)) 𝓜 𝓡 code.env #reader·open opening-def.routine code.calls-reader·open (opening-thm.met 𝓤 H 𝓜 𝓖 𝓡))
     (cited 𝓤 H (After 𝓤 H (𝓖 .A) (𝓜 .mem) (𝓡 .run)) 𝓜 𝓡 code.env #reader·after after-def.routine code.calls-reader·after (after-thm.met 𝓤 H 𝓜 𝓖 𝓡))
-    (cited 𝓤 H (Instruction 𝓤 H (𝓖 .A) (𝓜 .mem) (𝓡 .run)) 𝓜 𝓡 code.env #files·instruction instruction-def.routine code.calls-files·instructions·instruction (instruction-thm.met 𝓤 H 𝓜 𝓖 𝓡)))
+    (cited 𝓤 H (Instruction 𝓤 H (𝓖 .A) (𝓜 .mem) (𝓡 .run)) 𝓜 𝓡 code.env #files·instruction instruction-def.routine code.calls-files·lines·instruction (instruction-thm.met 𝓤 H 𝓜 𝓖 𝓡)))

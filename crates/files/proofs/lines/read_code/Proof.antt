@@ -6,8 +6,8 @@ use Rattle.files.specs.declared.Ended.{Ended}
 use Rattle.opcodes.specs.Ranges.{scopeOver}
 use Rattle.files.specs.Inside.{whyInstr}
 use Rattle.files.proofs.CodeLoop.{Filling, start, more, stops, ends}
-use Rattle.files.proofs.instructions.read_code.Statement.{statement}
-use Rattle.files.proofs.instructions.read_code.Tie as tie
+use Rattle.files.proofs.lines.read_code.Statement.{statement}
+use Rattle.files.proofs.lines.read_code.Tie as tie
 
 abbrev Inv-loop : tie.InvT-loop
 Inv-loop file kinds scope lines code₀ next₀ i₀ code next i = (lines ≡ scope .lines) × Filling (scopeOver scope kinds) lines file (next₀ .at) code (next .at) i

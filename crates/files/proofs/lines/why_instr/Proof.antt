@@ -1,7 +1,7 @@
 use Rattle.files.specs.Inside.{whyInstr}
 use borrow.Author.Needs.{needs}
-use Rattle.files.proofs.instructions.why_instr.Statement.{statement}
-use Rattle.files.proofs.instructions.why_instr.Tie as tie
+use Rattle.files.proofs.lines.why_instr.Statement.{statement}
+use Rattle.files.proofs.lines.why_instr.Tie as tie
 
 enum-told : tie.Need-enum-told
 enum-told c = search needs

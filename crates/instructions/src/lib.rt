@@ -1,10 +1,13 @@
-// An instruction made of its opcode and operands, and taken apart again.
-use super::Instr;
-use super::Parts;
+// An instruction made of its opcode and operands, and taken apart again: by the table of `opcodes`, for the
+// reader, the writer and everybody who looks at an instruction's operands.
+//
+// Both functions answer for every number and every instruction that they can be given.
+use opcodes::Instr;
+use opcodes::Parts;
 ghost use mathlib.Core.Path.{_≡_};
 ghost use Prim.Native.Nat.{_%_};
-ghost use Rattle.opcodes.specs.Making.{made};
+ghost use Rattle.instructions.specs.Making.{made};
 ghost use Rattle.opcodes.specs.Table.{partsOf};
 
 // The low eight bits.
 fn low_byte(n: u32) -> u8

@@ -53,14 +53,14 @@ use Rattle.opcodes.proofs.Scope as Z
 use Rattle.opcodes.proofs.Scope.Laws as Z′
 use Rattle.files.proofs.InstrRead as S
 use Rattle.files.proofs.InstrRead.Laws as S′
-use Rattle.files.proofs.instructions.read_instr as work
-use Rattle.files.proofs.instructions.read_instr.Symbol as work-def
-use Rattle.files.proofs.instructions.read_instr.Symbol.{name as #files·read-instr}
-use Rattle.files.proofs.instructions.read_instr.Met as work-thm
-use Rattle.files.proofs.instructions.instruction.Key.{name as #files·instruction}
-use Rattle.files.proofs.instructions.instruction as instruction
-use Rattle.files.proofs.instructions.instruction.Statement as stated
-use Rattle.files.proofs.instructions.instruction.Code as code
+use Rattle.files.proofs.lines.read_instr as work
+use Rattle.files.proofs.lines.read_instr.Symbol as work-def
+use Rattle.files.proofs.lines.read_instr.Symbol.{name as #files·read-instr}
+use Rattle.files.proofs.lines.read_instr.Met as work-thm
+use Rattle.files.proofs.lines.instruction.Key.{name as #files·instruction}
+use Rattle.files.proofs.lines.instruction as instruction
+use Rattle.files.proofs.lines.instruction.Statement as stated
+use Rattle.files.proofs.lines.instruction.Code as code
 use Rattle.files.specs.Parsing.{readInstr}
 
 abbrev stayed : Stays (instruction.ended .signature .params) (instruction.ended .kept)
@@ -182,4 +182,4 @@ instruction-spec 𝓤 H 𝓜 𝓖 𝓡 =
     entered 𝓤 H (tripleOf 𝓤 H (𝓖 .A) instruction.signature (instruction.spec 𝓤 H (𝓖 .A) (𝓜 .mem) (𝓡 .run)))
     (tables 𝓤 H 𝓜 𝓡 code.env .C) (tables 𝓤 H 𝓜 𝓡 code.env .Λ) #files·instruction code.function (code.unfolded 𝓤 H 𝓜 𝓡)
     (instruction-meets 𝓤 H (𝓖 .A) (givenOf 𝓤 H 𝓜 𝓖) (𝓜 .mem) (𝓡 .run) (tablesOf 𝓤 H 𝓜 (tables 𝓤 H 𝓜 𝓡 code.env))
-    (cited 𝓤 H (ReadInstr 𝓤 H (𝓖 .A) (𝓜 .mem) (𝓡 .run)) 𝓜 𝓡 code.env #files·read-instr work-def.routine code.calls-files·instructions·read-instr (work-thm.met 𝓤 H 𝓜 𝓖 𝓡)))
+    (cited 𝓤 H (ReadInstr 𝓤 H (𝓖 .A) (𝓜 .mem) (𝓡 .run)) 𝓜 𝓡 code.env #files·read-instr work-def.routine code.calls-files·lines·read-instr (work-thm.met 𝓤 H 𝓜 𝓖 𝓡)))

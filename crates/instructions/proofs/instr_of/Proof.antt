@@ -5,9 +5,9 @@ use Prim.Native.Nat.{ℕ, suc, _≤_, zero-le}
 use native.Mathlib.Omega.{arith}
 use lib.ListN.{List·getD-eq-default}
 use borrow.Author.Needs.{needs}
 use Rattle.opcodes.specs.Table.{makers}
-use Rattle.opcodes.proofs.making.instr_of.Statement.{statement}
-use Rattle.opcodes.proofs.making.instr_of.Tie as tie
+use Rattle.instructions.proofs.instr_of.Statement.{statement}
+use Rattle.instructions.proofs.instr_of.Tie as tie
 
 low-byte-requires : tie.Need-low-byte-requires
 low-byte-requires c κs = search needs

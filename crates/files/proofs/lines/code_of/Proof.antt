@@ -11,8 +11,8 @@ use Rattle.files.specs.Inside.{whyRead, codeAfter}
 use Rattle.opcodes.proofs.Bounds.{within-bounds}
 use Rattle.files.proofs.Judging.{field-small, most-small}
 use borrow.Author.Needs.{needs}
-use Rattle.files.proofs.instructions.code_of.Statement.{statement}
-use Rattle.files.proofs.instructions.code_of.Tie as tie
+use Rattle.files.proofs.lines.code_of.Statement.{statement}
+use Rattle.files.proofs.lines.code_of.Tie as tie
 
 most-code-requires : tie.Need-most-code-requires
 most-code-requires c κs = search needs

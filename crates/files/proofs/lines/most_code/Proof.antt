@@ -1,7 +1,7 @@
 use borrow.Author.Tests.{eq-eqb, ne-eqb}
 use Rattle.files.specs.Program.{mostCode}
-use Rattle.files.proofs.instructions.most_code.Statement.{statement}
-use Rattle.files.proofs.instructions.most_code.Tie as tie
+use Rattle.files.proofs.lines.most_code.Statement.{statement}
+use Rattle.files.proofs.lines.most_code.Tie as tie
 
 returns : tie.Need-returns
 returns c = simp (eq-eqb _ _ (c .if1 .taken), mostCode)

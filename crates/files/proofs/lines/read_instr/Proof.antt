@@ -2,7 +2,7 @@ use mathlib.Core.Path.{_≡_, sym, ap, _∙_}
 use Prim.Native.Nat.{ℕ}
 use denote.Ref.{now}
 use Rattle.numbers.specs.declared.Read.{Read}
-use Rattle.opcodes.proofs.Bounds.{made-whole}
+use Rattle.instructions.proofs.Whole.{made-whole}
 use Rattle.opcodes.specs.declared.Row.{Row}
 use Rattle.opcodes.specs.declared.Instr.{Instr}
 use Rattle.files.specs.declared.InstrRead.{InstrRead}
@@ -12,8 +12,8 @@ use Rattle.files.specs.Reading.{judged}
 use Rattle.files.specs.Inside.{whyRead}
 use Rattle.files.proofs.OneInstr.{no-opcode, no-first, no-second, no-third, an-instr, operand-fits}
 use borrow.Author.Needs.{needs}
-use Rattle.files.proofs.instructions.read_instr.Statement.{statement}
-use Rattle.files.proofs.instructions.read_instr.Tie as tie
+use Rattle.files.proofs.lines.read_instr.Statement.{statement}
+use Rattle.files.proofs.lines.read_instr.Tie as tie
 use Rattle.files.specs.Parsing.{operandAt}
 
 last-opcode-requires : tie.Need-last-opcode-requires

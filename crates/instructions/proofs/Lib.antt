@@ -1,0 +1,9 @@
+-- What `instructions` promises, and what carries it.
+--
+-- Both functions are equations with definitions, for every number that they can be given; nothing is asked of a
+-- caller.
+--
+-- About the definitions, for the crates above: an instruction and its parts are two forms of one thing
+-- (`Parting.parts-make`, `Parting.make-parts`), and operands in their ranges are held whole (`Whole.made-whole`).
+pub mod Parting
+pub mod Whole

@@ -1,0 +1,2 @@
+-- What the contract of `instr_of` cites.
+pub mod Making
