@@ -2,7 +2,6 @@
 //! R-14 (a 4,096-byte global filled a thousand times through checked stores), and a largest file with
 //! limit 0, where all the time goes into reading, coloring, instrumenting, reading back and laying out.
 //! Each pair is timed in turn, buffers cleared first; the best, the middle and the ratios are printed.
-mod toltjebrim;
 use independent::{instrument, machine};
 use std::time::Instant;
 use toltjebrim::{control, MEMORY, TABLE};
@@ -32,7 +31,7 @@ fn main() {
             let began = Instant::now();
             let answer = if side == 0 {
                 let run = control(&file, &[], &mut memory, &mut table, &mut room, limit);
-                (run.reason, run.steps)
+                (run.reason.number(), run.steps)
             } else {
                 other(&file, &mut memory, &mut table, &mut room, limit)
             };

@@ -2,6 +2,7 @@
  * numbers and puts numbers out. tests/host.sh compiles it as C99, C17 and C++. */
 #include "toltjebrim.h"
 #include <stdio.h>
+#include <string.h>
 
 static const uint8_t a[] = {0x01, 0x03, 0x00, 0x05, 0x00, 0x08, 0x01, 0x01, 0x02, 0x00,
                             0x02, 0x05, 0x01, 0x01, 0x07, 0x02, 0x00, 0x00, 0x0A, 0x00,
@@ -33,6 +34,23 @@ static void clear_room(void) {
     room[0] = room[1] = room[2] = room[3] = 9;
 }
 
+/* The struct says what the five numbers say, and the words go by them. */
+static void check_record(void) {
+    toltjebrim_record run = toltjebrim_run(a, sizeof a, NULL, 0, memory, table, room, 4, 1000000);
+    check("routine A as a record: 36 2 8 0 0", run.reason == TOLTJEBRIM_FORBIDDEN && run.place == 2 && run.steps == 8 &&
+                                                   run.out == 0 && run.taken == 0);
+    check("it was run", toltjebrim_ran(run));
+    check("it says so in words", strcmp(toltjebrim_words(run.reason), "a forbidden store") == 0);
+    run = toltjebrim_run(a, sizeof a - 1, NULL, 0, memory, table, room, 4, 1000000);
+    check("a file that ends early as a record", run.reason == TOLTJEBRIM_ENDS_EARLY && run.place == sizeof a - 1);
+    check("it was not run", !toltjebrim_ran(run));
+    run = toltjebrim_run(sums, sizeof sums, input, 3, memory, table, room, 4, 1000);
+    check("a record tells out from taken", run.out == 2 && run.taken == 3);
+    run = toltjebrim_run(NULL, 0, NULL, 0, memory, table, NULL, 0, 1000);
+    check("NULL with length 0 is the empty file", run.reason == TOLTJEBRIM_ENDS_EARLY && run.place == 0);
+    check("a number that is no reason has words too", strcmp(toltjebrim_words(12), "no number of this library") == 0);
+}
+
 int main(void) {
     uint64_t numbers[5];
     toltjebrim_control(a, sizeof a, 0, 0, memory, sizeof memory, table, sizeof table, room, 4, 8, numbers);
@@ -52,6 +70,7 @@ int main(void) {
                        numbers);
     check("room for one number: 33 4 4 1 2", is(numbers, 33, 4, 4, 1, 2));
     check("42 was put out, and what is behind the room stays", holds_room(42, 9, 9, 9));
+    check_record();
     printf("%d passed, %d failed\n", passed, failed);
     return failed != 0;
 }

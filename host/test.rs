@@ -1,7 +1,6 @@
 //! Tries the safe wrapper: routine A of the scope, a damaged file, a table of the wrong length, a routine that
 //! takes numbers and puts numbers out, and threads side by side.
-mod toltjebrim;
-use toltjebrim::{control, Record, MEMORY, TABLE};
+use toltjebrim::{control, Reason, Record, MEMORY, TABLE};
 
 const A: [u8; 29] = [
     0x01, 0x03, 0x00, 0x05, 0x00, 0x08, 0x01, 0x01, 0x02, 0x00, 0x02, 0x05, 0x01, 0x01, 0x07, 0x02,
@@ -45,7 +44,7 @@ fn side_by_side_is_the_same() -> bool {
     })
 }
 
-fn record(reason: u64, place: u64, steps: u64) -> Record {
+fn record(reason: Reason, place: u64, steps: u64) -> Record {
     Record {
         reason,
         place,
@@ -53,6 +52,14 @@ fn record(reason: u64, place: u64, steps: u64) -> Record {
         out: 0,
         taken: 0,
     }
+}
+
+/// Each number is one reason's, which has words; 12 to 29 and from 39 on are none.
+fn reasons_are_numbers() -> bool {
+    (0..50).all(|number| match Reason::of(number) {
+        Some(reason) => reason.number() == number && !reason.to_string().is_empty(),
+        None => (12..30).contains(&number) || number > 38,
+    })
 }
 
 fn main() {
@@ -70,27 +77,31 @@ fn main() {
     let mut room = vec![9u32; 1000];
 
     let run = control(&A[..28], &[], &mut memory, &mut table, &mut room, 1_000_000);
-    check("a file that ends early is refused with 2 at its length", run == record(2, 28, 0));
+    check("a file that ends early is refused with 2 at its length", run == record(Reason::EndsEarly, 28, 0));
     let kept = memory.iter().chain(&table).all(|&byte| byte == 9) && room.iter().all(|&n| n == 9);
     check("a refusal changes nothing that was lent", kept);
 
     let run = control(&A, &[], &mut memory, &mut table, &mut room, 1_000_000);
-    check("routine A gives 36 2 8 0 0", run == record(36, 2, 8));
+    check("routine A gives 36 2 8 0 0", run == record(Reason::Forbidden, 2, 8));
     check("bytes 24 and 31 hold 7", memory[24] == 7 && memory[31] == 7);
     check("numbers past those put out stay", room.iter().all(|&n| n == 9));
 
     let run = control(&A, &[], &mut memory, &mut table[1..], &mut room, 1_000_000);
-    check("a table of another length is refused with 11", run == record(11, 0, 0));
+    check("a table of another length is refused with 11", run == record(Reason::Lengths, 0, 0));
 
     let numbers = |reason, place, steps, out, taken| Record { reason, place, steps, out, taken };
     room.fill(9);
     let run = control(&SUMS, &[35, 7, 57_000], &mut memory, &mut table, &mut room, 1_000);
-    check("three inputs: 32 1 7 2 3", run == numbers(32, 1, 7, 2, 3));
+    check("three inputs: 32 1 7 2 3", run == numbers(Reason::NoInput, 1, 7, 2, 3));
     check("42 and 35 were put out", room[..2] == [42, 35]);
     check("what is behind them stays", room[2..].iter().all(|&n| n == 9));
     let run = control(&SUMS, &[35, 7, 57_000], &mut memory, &mut table, &mut room[..1], 1_000);
-    check("room for one number: 33 4 4 1 2", run == numbers(33, 4, 4, 1, 2));
+    check("room for one number: 33 4 4 1 2", run == numbers(Reason::NoRoom, 4, 4, 1, 2));
 
     check("threads side by side give what runs alone give", side_by_side_is_the_same());
+    check("each reason has its number and words", reasons_are_numbers());
     println!("{} passed, {} failed", passed, failed);
+    if failed != 0 {
+        std::process::exit(1);
+    }
 }

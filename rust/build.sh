@@ -11,10 +11,10 @@ mkdir -p "$out"
 flags="--edition 2021 -C opt-level=3 -C codegen-units=1 -C overflow-checks=on"
 
 echo "building the library" >&2
-$rustc $flags --crate-type lib --crate-name toltjebrim -o "$out/libtoltjebrim.rlib" src/lib.rs
+$rustc $flags --crate-type lib --crate-name independent -o "$out/libindependent.rlib" src/lib.rs
 for program in trials bench; do
     echo "building $program" >&2
-    $rustc $flags --crate-name "$program" --extern "toltjebrim=$out/libtoltjebrim.rlib" \
+    $rustc $flags --crate-name "$program" --extern "independent=$out/libindependent.rlib" \
         -o "$out/$program" "src/bin/$program.rs"
 done
 
@@ -23,7 +23,7 @@ if [ "${1:-}" = test ]; then
         name=$(basename "$file" .rs)
         echo "building and running $file" >&2
         CARGO_BIN_EXE_trials="$PWD/$out/trials" $rustc $flags -C debug-assertions=on --test \
-            --crate-name "$name" --extern "toltjebrim=$out/libtoltjebrim.rlib" \
+            --crate-name "$name" --extern "independent=$out/libindependent.rlib" \
             -o "$out/test-$name" "$file"
         "$out/test-$name" --quiet
     done

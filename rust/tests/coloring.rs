@@ -1,13 +1,13 @@
 //! Classes and colors against the definition taken at its word, and version 2
 //! against the routine it was made from.
 
-use toltjebrim::coloring::{colors, unsafe_set, Classes};
-use toltjebrim::file::{Object, Routine};
-use toltjebrim::gen::random::Random;
-use toltjebrim::gen::{routines, worst};
-use toltjebrim::instruction::Instruction::{self, *};
-use toltjebrim::instrument::instrument_routine;
-use toltjebrim::layout::{extent, layout};
+use independent::coloring::{colors, unsafe_set, Classes};
+use independent::file::{Object, Routine};
+use independent::gen::random::Random;
+use independent::gen::{routines, worst};
+use independent::instruction::Instruction::{self, *};
+use independent::instrument::instrument_routine;
+use independent::layout::{extent, layout};
 
 /// The sets of the unsafe instructions, said once more: by opcode numbers.
 fn sets_by_hand(routine: &Routine) -> Vec<Vec<usize>> {

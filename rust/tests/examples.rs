@@ -1,18 +1,18 @@
 //! The fourteen checked examples of the description, in its order.
 
-use toltjebrim::coloring::{colors, unsafe_set};
-use toltjebrim::file::{read_routine, Instrumented, Object, Routine};
-use toltjebrim::gen::known;
-use toltjebrim::gen::random::Random;
-use toltjebrim::gen::worst;
-use toltjebrim::instruction::Instruction::*;
-use toltjebrim::instrument::{instrument, instrument_routine};
-use toltjebrim::layout::{layout, MEMORY, TABLE};
-use toltjebrim::machine;
-use toltjebrim::number;
-use toltjebrim::plain;
-use toltjebrim::record::Record;
-use toltjebrim::refusal::Refusal;
+use independent::coloring::{colors, unsafe_set};
+use independent::file::{read_routine, Instrumented, Object, Routine};
+use independent::gen::known;
+use independent::gen::random::Random;
+use independent::gen::worst;
+use independent::instruction::Instruction::*;
+use independent::instrument::{instrument, instrument_routine};
+use independent::layout::{layout, MEMORY, TABLE};
+use independent::machine;
+use independent::number;
+use independent::plain;
+use independent::record::Record;
+use independent::refusal::Refusal;
 
 /// A run with what it leaves.
 struct Ran {

@@ -1,14 +1,14 @@
 //! Reading and writing: the edge of every field with its refusal and place, the
 //! order of refusals, and the round trips.
 
-use toltjebrim::file::{
+use independent::file::{
     read_instrumented, read_routine, write_numbers, Instrumented, Routine, Version,
 };
-use toltjebrim::gen::random::Random;
-use toltjebrim::gen::{cases, damaged, others, routines, worst};
-use toltjebrim::instrument::instrument;
-use toltjebrim::number;
-use toltjebrim::refusal::Refusal;
+use independent::gen::random::Random;
+use independent::gen::{cases, damaged, others, routines, worst};
+use independent::instrument::instrument;
+use independent::number;
+use independent::refusal::Refusal;
 
 type Refused = Result<(), Refusal>;
 

@@ -2,15 +2,15 @@
 //! little, so what happens in the runs is counted here.
 
 use std::collections::BTreeMap;
-use toltjebrim::coverage::Coverage;
-use toltjebrim::file::{read_routine, Object};
-use toltjebrim::gen::random::Random;
-use toltjebrim::gen::{cases, every, known, routines};
-use toltjebrim::instruction::Instruction::{self, *};
-use toltjebrim::layout::{extent, MEMORY};
-use toltjebrim::plain::{Plain, Rule};
-use toltjebrim::states::{Seen, State};
-use toltjebrim::wire::Kind;
+use independent::coverage::Coverage;
+use independent::file::{read_routine, Object};
+use independent::gen::random::Random;
+use independent::gen::{cases, every, known, routines};
+use independent::instruction::Instruction::{self, *};
+use independent::layout::{extent, MEMORY};
+use independent::plain::{Plain, Rule};
+use independent::states::{Seen, State};
+use independent::wire::Kind;
 
 /// The address and width of a store that is under way.
 fn aim(plain: &Plain, rule: &Rule) -> Option<(u64, u64)> {

@@ -1,13 +1,13 @@
 //! The machine on files by anybody: every stop, the order in which they are
 //! tested, refusals that change nothing, and a heap that may be forged.
 
-use toltjebrim::file::{Instrumented, Object};
-use toltjebrim::gen::others;
-use toltjebrim::gen::random::Random;
-use toltjebrim::instruction::Instruction::{self, *};
-use toltjebrim::layout::{END_SLOT, HEAP, MEMORY, TABLE};
-use toltjebrim::machine;
-use toltjebrim::record::Record;
+use independent::file::{Instrumented, Object};
+use independent::gen::others;
+use independent::gen::random::Random;
+use independent::instruction::Instruction::{self, *};
+use independent::layout::{END_SLOT, HEAP, MEMORY, TABLE};
+use independent::machine;
+use independent::record::Record;
 
 struct Ran {
     record: Record,

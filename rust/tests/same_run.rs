@@ -2,15 +2,15 @@
 //! numbers taken and memory, on many routines, compared after every step.
 
 use std::collections::BTreeMap;
-use toltjebrim::file::{Object, Routine};
-use toltjebrim::gen::random::Random;
-use toltjebrim::gen::{cases, known, routines, soup};
-use toltjebrim::instruction::Instruction::*;
-use toltjebrim::instrument::instrument;
-use toltjebrim::layout::{MEMORY, TABLE};
-use toltjebrim::lockstep::same_run;
-use toltjebrim::machine;
-use toltjebrim::plain;
+use independent::file::{Object, Routine};
+use independent::gen::random::Random;
+use independent::gen::{cases, known, routines, soup};
+use independent::instruction::Instruction::*;
+use independent::instrument::instrument;
+use independent::layout::{MEMORY, TABLE};
+use independent::lockstep::same_run;
+use independent::machine;
+use independent::plain;
 
 #[test]
 fn the_examples_run_the_same() {

@@ -2,10 +2,10 @@
 //! a wrong program that is found out.
 
 use std::process::{Command, Output};
-use toltjebrim::gen::cases;
-use toltjebrim::gen::known::{as_the_program_runs, ROUTINE_A};
-use toltjebrim::shrink::shrink;
-use toltjebrim::wire::{
+use independent::gen::cases;
+use independent::gen::known::{as_the_program_runs, ROUTINE_A};
+use independent::shrink::shrink;
+use independent::wire::{
     digest, digest_bytes, from_hex, to_hex, Answer, Case, Kind, LARGEST_MEMORY, LARGEST_ROOM,
     LARGEST_TABLE, LONGEST_FILE, MOST_INPUTS, MOST_OUTPUTS,
 };

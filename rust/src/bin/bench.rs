@@ -6,13 +6,13 @@
 use std::io::{self, Write};
 use std::process::ExitCode;
 use std::time::Instant;
-use toltjebrim::file::{Object, Routine};
-use toltjebrim::gen::random::Random;
-use toltjebrim::gen::worst;
-use toltjebrim::instruction::Instruction::*;
-use toltjebrim::instrument::instrument;
-use toltjebrim::layout::{MEMORY, TABLE};
-use toltjebrim::machine;
+use independent::file::{Object, Routine};
+use independent::gen::random::Random;
+use independent::gen::worst;
+use independent::instruction::Instruction::*;
+use independent::instrument::instrument;
+use independent::layout::{MEMORY, TABLE};
+use independent::machine;
 
 const USAGE: &str = "\
 use: bench [--runs N] [--turns N]

@@ -5,18 +5,18 @@
 use std::io::{self, Read, Write};
 use std::process::ExitCode;
 use std::time::{Instant, SystemTime, UNIX_EPOCH};
-use toltjebrim::coverage::{meaning, Coverage};
-use toltjebrim::file::{read_instrumented, read_routine};
-use toltjebrim::gen::random::Random;
-use toltjebrim::gen::{cases, every, known, others};
-use toltjebrim::instruction::Instruction;
-use toltjebrim::layout::{MEMORY, TABLE};
-use toltjebrim::lockstep::same_run;
-use toltjebrim::partner::{serve, Asked, Partner, Silence};
-use toltjebrim::shrink::shrink;
-use toltjebrim::states::Seen;
-use toltjebrim::wire::{from_hex, to_hex, Answer, Case, Kind, HEADER};
-use toltjebrim::{machine, plain};
+use independent::coverage::{meaning, Coverage};
+use independent::file::{read_instrumented, read_routine};
+use independent::gen::random::Random;
+use independent::gen::{cases, every, known, others};
+use independent::instruction::Instruction;
+use independent::layout::{MEMORY, TABLE};
+use independent::lockstep::same_run;
+use independent::partner::{serve, Asked, Partner, Silence};
+use independent::shrink::shrink;
+use independent::states::Seen;
+use independent::wire::{from_hex, to_hex, Answer, Case, Kind, HEADER};
+use independent::{machine, plain};
 
 const USAGE: &str = "\
 use: trials --program CMD [--cases N] [--seed S] [--kinds 1,3,8]
