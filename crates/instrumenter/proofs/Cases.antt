@@ -7,7 +7,6 @@ use lib.ListN.{getD}
 use types.Run.{OneOf, miss}
 use denote.Enum.Declared.{tagOf}
 use Rattle.opcodes.specs.declared.Instr.{Instr}
-use Rattle.opcodes.specs.declared.Instr.the-variants.{End, Place, Add, Sub, Less, Load8, Load32, Put8, Put32, Write8, Write32, Jump, JumpIf, Alloc, Free, In, Out, Check8, Check32, CheckPut8, CheckPut32}
 use Rattle.opcodes.specs.View.{view}
 use Rattle.opcodes.proofs.Instr.{the-type}
 use borrow.Author.Tests.{eq-eqb, ne-eqb}
@@ -15,6 +14,7 @@ use Rattle.instrumenter.specs.Arrays.{checkFor, startIn, firstIn, checkN
 use Rattle.safety.specs.declared.Nature.{Nature}
 use Rattle.safety.specs.Nature.{natureOf, sizesIn}
 use Rattle.safety.proofs.Nature
+use Rattle.safety.proofs.Tables.{agree-on}
 use Rattle.opcodes.specs.Moved.{moved}
 
 -- the opcodes that are no store, and those that are copied as they are
@@ -24,53 +24,11 @@ unstored = 0 ∷ 1 ∷ 2 ∷ 3 ∷ 4 ∷ 5 ∷ 6 ∷ 7 ∷ 12 ∷ 13 ∷ 14 ∷ 
 abbrev pub copied : List ℕ
 copied = 0 ∷ 1 ∷ 2 ∷ 3 ∷ 4 ∷ 5 ∷ 6 ∷ 7 ∷ 8 ∷ 9 ∷ 14 ∷ 15 ∷ 16 ∷ 17 ∷ 18 ∷ 19 ∷ 20 ∷ 21 ∷ []
 
-pub no-store : (color : ℕ) (i : Instr) → OneOf unstored (tagOf the-type i) → checkFor (view i) color ≡ End
-no-store color End h = refl
-no-store color (Instr.Set d n) h = refl
-no-store color (Place d g) h = refl
-no-store color (Add d a b) h = refl
-no-store color (Sub d a b) h = refl
-no-store color (Less d a b) h = refl
-no-store color (Load8 d a) h = refl
-no-store color (Load32 d a) h = refl
-no-store color (Put8 g k a) h = absurd (miss unstored 8 tt h)
-no-store color (Put32 g k a) h = absurd (miss unstored 9 tt h)
-no-store color (Write8 a b s) h = absurd (miss unstored 10 tt h)
-no-store color (Write32 a b s) h = absurd (miss unstored 11 tt h)
-no-store color (Jump t) h = refl
-no-store color (JumpIf a t) h = refl
-no-store color (Alloc d g a) h = refl
-no-store color (Free a) h = refl
-no-store color (In d) h = refl
-no-store color (Out a) h = refl
-no-store color (Check8 a c) h = refl
-no-store color (Check32 a c) h = refl
-no-store color (CheckPut8 g k c) h = refl
-no-store color (CheckPut32 g k c) h = refl
+pub no-store : (color : ℕ) (i : Instr) → OneOf unstored (tagOf the-type i) → checkFor (view i) color ≡ Instr.End
+no-store color = agree-on unstored (λ i. checkFor (view i) color) (λ i. Instr.End) (λ x y z. refl)
 
 pub copied-whole : (target : ℕ → ℕ) (i : Instr) → OneOf copied (tagOf the-type i) → i ≡ moved target i
-copied-whole target End h = refl
-copied-whole target (Instr.Set d n) h = refl
-copied-whole target (Place d g) h = refl
-copied-whole target (Add d a b) h = refl
-copied-whole target (Sub d a b) h = refl
-copied-whole target (Less d a b) h = refl
-copied-whole target (Load8 d a) h = refl
-copied-whole target (Load32 d a) h = refl
-copied-whole target (Put8 g k a) h = refl
-copied-whole target (Put32 g k a) h = refl
-copied-whole target (Write8 a b s) h = absurd (miss copied 10 tt h)
-copied-whole target (Write32 a b s) h = absurd (miss copied 11 tt h)
-copied-whole target (Jump t) h = absurd (miss copied 12 tt h)
-copied-whole target (JumpIf a t) h = absurd (miss copied 13 tt h)
-copied-whole target (Alloc d g a) h = refl
-copied-whole target (Free a) h = refl
-copied-whole target (In d) h = refl
-copied-whole target (Out a) h = refl
-copied-whole target (Check8 a c) h = refl
-copied-whole target (Check32 a c) h = refl
-copied-whole target (CheckPut8 g k c) h = refl
-copied-whole target (CheckPut32 g k c) h = refl
+copied-whole target = agree-on copied (λ i. i) (moved target) (λ x y z. refl)
 
 -- ---- where a set starts
 

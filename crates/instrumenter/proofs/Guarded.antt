@@ -9,9 +9,10 @@ use mathlib.Core.List.{List, [], _∷_, _++_, append-assoc}
 use lib.ListN.{length, getD, take, drop, length-append}
 use lib.Seq.{take-all, take-suc, split-at, getD-at, getD-append-add}
 use Rattle.opcodes.specs.declared.Instr.{Instr}
-use Rattle.opcodes.specs.declared.Instr.the-variants.{End, Place, Add, Sub, Less, Load8, Load32, Put8, Put32, Write8, Write32, Jump, JumpIf, Alloc, Free, In, Out, Check8, Check32, CheckPut8, CheckPut32}
+use Rattle.opcodes.specs.declared.Instr.the-variants.{End}
 use Rattle.files.specs.Program.{Program}
 use Rattle.opcodes.specs.View.{one, four, Aim, inGlobal, atTemp, View, act, jump, jumpIf, store, check, view, checkInstr}
+use Rattle.safety.proofs.Tables.{agree}
 use Rattle.instrumenter.specs.Instrumented.{checksOf, checkOf, guarded, spanOf, newPlace}
 use Rattle.instrumenter.proofs.Spans.{span-append, guarded-append, length-guarded}
 use Rattle.opcodes.specs.Moved.{moved}
@@ -25,28 +26,7 @@ movedView target (store aim b s) = store aim b 0
 movedView target (check aim c) = check aim c
 
 pub view-moved : (target : ℕ → ℕ) (i : Instr) → view (moved target i) ≡ movedView target (view i)
-view-moved target End = refl
-view-moved target (Instr.Set d n) = refl
-view-moved target (Place d g) = refl
-view-moved target (Add d a b) = refl
-view-moved target (Sub d a b) = refl
-view-moved target (Less d a b) = refl
-view-moved target (Load8 d a) = refl
-view-moved target (Load32 d a) = refl
-view-moved target (Put8 g k a) = refl
-view-moved target (Put32 g k a) = refl
-view-moved target (Write8 a b s) = refl
-view-moved target (Write32 a b s) = refl
-view-moved target (Jump t) = refl
-view-moved target (JumpIf a t) = refl
-view-moved target (Alloc d g a) = refl
-view-moved target (Free a) = refl
-view-moved target (In d) = refl
-view-moved target (Out a) = refl
-view-moved target (Check8 a c) = refl
-view-moved target (Check32 a c) = refl
-view-moved target (CheckPut8 g k c) = refl
-view-moved target (CheckPut32 g k c) = refl
+view-moved target = agree (λ i. view (moved target i)) (λ i. movedView target (view i)) (λ x y z. refl)
 
 pub view-check : (aim : Aim) (c : ℕ) → view (checkInstr aim c) ≡ check aim c
 view-check (inGlobal g k one) c = refl

@@ -1,14 +1,13 @@
 -- Over the arrays that hold a routine with its colors, the two passes give version 2 of that routine.
 use Prim.Native.Nat.{ℕ, _+_, _<_}
 use native.Mathlib.Omega.{arith}
-use mathlib.Core.Path.{_≡_, refl, _∙_, ap, ap₂}
+use mathlib.Core.Path.{_≡_, refl, sym, _∙_, ap, ap₂}
 use mathlib.Core.List.{List, [], _∷_, _++_, map}
 use mathlib.Core.Bool.{Bool, true, false}
 use lib.ListN.{length, getD}
 use lib.Dec.{ltb}
 use borrow.Author.Tests.{lt-ltb}
 use Rattle.opcodes.specs.declared.Instr.{Instr}
-use Rattle.opcodes.specs.declared.Instr.the-variants.{End, Place, Add, Sub, Less, Load8, Load32, Put8, Put32, Write8, Write32, Jump, JumpIf, Alloc, Free, In, Out, Check8, Check32, CheckPut8, CheckPut32}
 use Rattle.files.specs.Program.{Program}
 use Rattle.files.specs.Writing.{every, goodInstr, scopeOf}
 use Rattle.opcodes.specs.View.{inGlobal, atTemp, View, act, jump, jumpIf, store, check, view, checkInstr, bytes}
@@ -18,6 +17,7 @@ use Rattle.coloring.specs.Color.{colorOfSet}
 use Rattle.coloring.specs.Colored.{tinted}
 use Rattle.safety.specs.declared.Nature.{Nature}
 use Rattle.safety.specs.Nature.{putNature, natureOf, sizesIn}
+use Rattle.safety.proofs.Tables.{agree}
 use Rattle.coloring.proofs.Tinted.{tinted-size}
 use Rattle.instrumenter.specs.Instrumented.{checksOf, checkOf, guarded, spanOf}
 use Rattle.instrumenter.specs.Arrays.{checkFor, firstIn, checkNature, checkIn}
@@ -46,6 +46,17 @@ checksHeld color p = checkIn (sizesHeld color p) (colorsHeld color p) (endsHeld 
 
 abbrev pick : (safe : Bool) → List Instr → List Instr
 pick safe unsafe = elim safe [ true ↦ [] | false ↦ unsafe ]
+
+-- only a jump's new target is looked at
+abbrev goal : (target : ℕ → ℕ) → View → ℕ
+goal target (act x) = 0
+goal target (jump t) = target t
+goal target (jumpIf a t) = target t
+goal target (store aim b s) = 0
+goal target (check aim c) = 0
+
+by-goal : (target : ℕ → ℕ) (i : Instr) → moved target i ≡ moved (λ t. goal target (view i)) i
+by-goal target = agree (moved target) (λ i. moved (λ t. goal target (view i)) i) (λ x y z. refl)
 
 module _ (p : Program) (r : Good 1 p) (color : ℕ → ℕ) where
   -- ---- one check
@@ -97,30 +108,17 @@ module _ (p : Program) (r : Good 1 p) (color : ℕ → ℕ) where
 
   -- ---- code
 
-  module _ (target other : ℕ → ℕ) (agree : (t : ℕ) → t < length (p .code) → target t ≡ other t) where
+  module _ (target other : ℕ → ℕ) (agreed : (t : ℕ) → t < length (p .code) → target t ≡ other t) where
+    same-goal : (v : View) → Names p v → goal target v ≡ goal other v
+    same-goal (act x) h = refl
+    same-goal (jump t) h = agreed t h
+    same-goal (jumpIf a t) h = agreed t h
+    same-goal (store aim b s) h = refl
+    same-goal (check aim c) h = refl
+
     moved-same : (i : Instr) → Names p (view i) → moved target i ≡ moved other i
-    moved-same End h = refl
-    moved-same (Instr.Set d n) h = refl
-    moved-same (Place d g) h = refl
-    moved-same (Add d a b) h = refl
-    moved-same (Sub d a b) h = refl
-    moved-same (Less d a b) h = refl
-    moved-same (Load8 d a) h = refl
-    moved-same (Load32 d a) h = refl
-    moved-same (Put8 g k a) h = refl
-    moved-same (Put32 g k a) h = refl
-    moved-same (Write8 a b s) h = refl
-    moved-same (Write32 a b s) h = refl
-    moved-same (Jump t) h = ap (λ (x : ℕ). Jump x) (agree t h)
-    moved-same (JumpIf a t) h = ap (λ (x : ℕ). JumpIf a x) (agree t h)
-    moved-same (Alloc d g a) h = refl
-    moved-same (Free a) h = refl
-    moved-same (In d) h = refl
-    moved-same (Out a) h = refl
-    moved-same (Check8 a c) h = refl
-    moved-same (Check32 a c) h = refl
-    moved-same (CheckPut8 g k c) h = refl
-    moved-same (CheckPut32 g k c) h = refl
+    moved-same i h =
+        by-goal target i ∙ ap (λ (n : ℕ). moved (λ t. n) i) (same-goal (view i) h) ∙ sym (by-goal other i)
 
     pub guarded-held : (code : List Instr) → every (goodInstr (scopeOf 1 p)) code ≡ true → guarded (checksHeld color p) target code ≡ guarded (checksOf color p) other code
     unfolding guarded

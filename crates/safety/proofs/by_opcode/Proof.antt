@@ -2,7 +2,7 @@
 use mathlib.Core.Path.{sym, _∙_}
 use native.Mathlib.Omega.{arith}
 use borrow.Author.Needs.{needs}
-use Rattle.safety.proofs.Natures.{at-8, at-9, at-12, at-13, at-writes, at-checks, at-others}
+use Rattle.safety.proofs.Natures.{at-8, at-9, at-12, at-13, at-writes, at-checks, at-first, at-between, at-past}
 use Rattle.safety.proofs.by_opcode.Statement.{statement}
 use Rattle.safety.proofs.by_opcode.Tie as tie
 
@@ -13,31 +13,31 @@ put-requires-2 : tie.Need-put-requires-2
 put-requires-2 c κs = search needs
 
 returns : tie.Need-returns
-returns c = c .put .ensures ∙ sym (at-8 (λ g. c .before .before .args .size) (c .before .before .args .opcode) (c .before .before .args .x) (c .before .before .args .y) (c .before .before .args .z) (c .before .match .keys1))
+returns c = c .put .ensures ∙ sym (at-8 (λ g. c .before .before .args .size) (c .before .before .args .x) (c .before .before .args .y) (c .before .before .args .z) (c .before .before .args .opcode) (c .before .match .keys1))
 
 returns-2 : tie.Need-returns-2
-returns-2 c = c .put2 .ensures ∙ sym (at-9 (λ g. c .before .before .args .size) (c .before .before .args .opcode) (c .before .before .args .x) (c .before .before .args .y) (c .before .before .args .z) (c .before .match .keys2))
+returns-2 c = c .put2 .ensures ∙ sym (at-9 (λ g. c .before .before .args .size) (c .before .before .args .x) (c .before .before .args .y) (c .before .before .args .z) (c .before .before .args .opcode) (c .before .match .keys2))
 
 returns-3 : tie.Need-returns-3
-returns-3 c = sym (at-12 (λ g. c .before .args .size) (c .before .args .opcode) (c .before .args .x) (c .before .args .y) (c .before .args .z) (c .match .keys3))
+returns-3 c = sym (at-12 (λ g. c .before .args .size) (c .before .args .x) (c .before .args .y) (c .before .args .z) (c .before .args .opcode) (c .match .keys3))
 
 returns-4 : tie.Need-returns-4
-returns-4 c = sym (at-13 (λ g. c .before .args .size) (c .before .args .opcode) (c .before .args .x) (c .before .args .y) (c .before .args .z) (c .match .keys4))
+returns-4 c = sym (at-13 (λ g. c .before .args .size) (c .before .args .x) (c .before .args .y) (c .before .args .z) (c .before .args .opcode) (c .match .keys4))
 
 returns-5 : tie.Need-returns-5
-returns-5 c = sym (at-writes (λ g. c .before .before .before .args .size) (c .before .before .before .args .opcode) (c .before .before .before .args .x) (c .before .before .before .args .y) (c .before .before .before .args .z) (omega arith) (omega arith))
+returns-5 c = sym (at-writes (λ g. c .before .before .before .args .size) (c .before .before .before .args .x) (c .before .before .before .args .y) (c .before .before .before .args .z) (c .before .before .before .args .opcode) (omega arith) (omega arith))
 
 returns-6 : tie.Need-returns-6
-returns-6 c = sym (at-checks (λ g. c .before .before .before .before .before .args .size) (c .before .before .before .before .before .args .opcode) (c .before .before .before .before .before .args .x) (c .before .before .before .before .before .args .y) (c .before .before .before .before .before .args .z) (omega arith) (omega arith))
+returns-6 c = sym (at-checks (λ g. c .before .before .before .before .before .args .size) (c .before .before .before .before .before .args .x) (c .before .before .before .before .before .args .y) (c .before .before .before .before .before .args .z) (c .before .before .before .before .before .args .opcode) (omega arith) (omega arith))
 
 returns-7 : tie.Need-returns-7
-returns-7 c = sym (at-others (λ g. c .before .before .args .size) (c .before .before .args .opcode) (c .before .before .args .x) (c .before .before .args .y) (c .before .before .args .z) (omega arith) (omega arith))
+returns-7 c = sym (at-first (λ g. c .before .before .args .size) (c .before .before .args .x) (c .before .before .args .y) (c .before .before .args .z) (c .before .before .args .opcode) (omega arith))
 
 returns-8 : tie.Need-returns-8
-returns-8 c = sym (at-others (λ g. c .before .before .before .before .args .size) (c .before .before .before .before .args .opcode) (c .before .before .before .before .args .x) (c .before .before .before .before .args .y) (c .before .before .before .before .args .z) (omega arith) (omega arith))
+returns-8 c = sym (at-between (λ g. c .before .before .before .before .args .size) (c .before .before .before .before .args .x) (c .before .before .before .before .args .y) (c .before .before .before .before .args .z) (c .before .before .before .before .args .opcode) (omega arith) (omega arith))
 
 returns-9 : tie.Need-returns-9
-returns-9 c = sym (at-others (λ g. c .before .before .before .before .before .args .size) (c .before .before .before .before .before .args .opcode) (c .before .before .before .before .before .args .x) (c .before .before .before .before .before .args .y) (c .before .before .before .before .before .args .z) (omega arith) (omega arith))
+returns-9 c = sym (at-past (λ g. c .before .before .before .before .before .args .size) (c .before .before .before .before .before .args .x) (c .before .before .before .before .before .args .y) (c .before .before .before .before .before .args .z) (c .before .before .before .before .before .args .opcode) (omega arith))
 
 pub by-opcode-spec : {M : Type 1} → statement M
 by-opcode-spec =

@@ -1,0 +1,60 @@
+-- One computed equation in place of a case for each opcode: two functions whose tables are the same agree.
+use Prim.Native.Nat.{ℕ, zero, suc, _+_, _≤_, _<_}
+use native.Mathlib.Omega.{arith}
+use native.Mathlib.Decide.{decLt}
+use native.Mathlib.Nat.{eq-or-lt-of-le}
+use mathlib.Core.Path.{_≡_, refl, sym, _∙_, ap}
+use mathlib.Core.Logic.{_⊎_, inl, inr}
+use mathlib.Core.List.{List, [], _∷_, tail}
+use mathlib.Core.Bool.{Bool, true, false}
+use lib.ListN.{getD, List·getD-eq-default}
+use types.Run.{OneOf, miss}
+use mir.Val.{hasKey}
+use denote.Enum.Declared.{tagOf}
+use Rattle.opcodes.specs.declared.Instr.{Instr}
+use Rattle.opcodes.specs.Table.{makers, make, partsOf}
+use Rattle.opcodes.proofs.Instr.{the-type}
+use Rattle.opcodes.proofs.Parting.{make-parts}
+
+module _ {A : Type 0} where
+  -- what a function gives for n numbers
+  abbrev table : (f : ℕ → A) (from n : ℕ) → List A
+  table f from zero = []
+  table f from (suc n) = f from ∷ table f (suc from) n
+
+  pub alike : (f g : ℕ → A) (from n : ℕ) → table f from n ≡ table g from n → (k : ℕ) → from ≤ k → k < from + n → f k ≡ g k
+  alike f g from zero e k l h = absurd (omega arith)
+  alike f g from (suc n) e k l h = go (alike f g (suc from) n (ap tail e) k) (eq-or-lt-of-le l)
+    where
+      go : (suc from ≤ k → k < suc from + n → f k ≡ g k) → (from ≡ k) ⊎ (from < k) → f k ≡ g k
+      go next (inl s) = rw (← s) (ap (λ (t : List A). getD t 0 (f from)) e)
+      go next (inr m) = next m (omega arith)
+
+  -- past the table stands END
+  pub past : (f : Instr → A) (op x y z : ℕ) → 22 ≤ op → f (make op x y z) ≡ f Instr.End
+  past f op x y z h = ap (λ (m : ℕ → ℕ → ℕ → Instr). f (m x y z)) (List·getD-eq-default makers (λ (x y z : ℕ). Instr.End) h)
+
+  -- what a function gives for an instruction of each opcode
+  abbrev pub rows : (Instr → A) → (x y z : ℕ) → List A
+  rows f x y z = table (λ op. f (make op x y z)) 0 22
+
+  pub agree : (f g : Instr → A) → ((x y z : ℕ) → rows f x y z ≡ rows g x y z) → (i : Instr) → f i ≡ g i
+  agree f g e i =
+      ap f (sym (make-parts i)) ∙ made (partsOf i .op) (partsOf i .x) (partsOf i .y) (partsOf i .z) ∙ ap g (make-parts i)
+    where
+      made : (op x y z : ℕ) → f (make op x y z) ≡ g (make op x y z)
+      made op x y z =
+          elim (decLt op 22) [
+            | yes h ↦ alike (λ (op : ℕ). f (make op x y z)) (λ (op : ℕ). g (make op x y z)) 0 22 (e x y z) op (omega arith) h
+            | no n ↦ past f op x y z (omega arith) ∙ ap (λ (t : List A). getD t 0 (f Instr.End)) (e x y z) ∙ sym (past g op x y z (omega arith))
+          ]
+
+  -- the same for the opcodes that an arm of a match takes
+  pub agree-on : (keys : List ℕ) (f g : Instr → A)
+      → ((x y z : ℕ) → rows f x y z ≡ rows (λ i. elim (hasKey keys (tagOf the-type i)) [ true ↦ g i | false ↦ f i ]) x y z)
+      → (i : Instr) → OneOf keys (tagOf the-type i) → f i ≡ g i
+  agree-on keys f g e i h = agree f (λ i. elim (hasKey keys (tagOf the-type i)) [ true ↦ g i | false ↦ f i ]) e i ∙ go (hasKey keys (tagOf the-type i)) refl
+    where
+      go : (b : Bool) → hasKey keys (tagOf the-type i) ≡ b → elim (hasKey keys (tagOf the-type i)) [ true ↦ g i | false ↦ f i ] ≡ g i
+      go true t = rw t
+      go false t = absurd (miss keys (tagOf the-type i) (rw t tt) h)
