@@ -3,17 +3,24 @@ use Prim.Native.Nat.{ℕ, _+_, _%_, _≤_, _<_}
 use mathlib.Core.Path.{_≡_, refl, sym, ap, _∙_}
 use mathlib.Core.Bool.{false}
 use mathlib.Core.List.{List}
+use native.Mathlib.Omega.{arith}
 use lib.ListN.{length, replicate}
 use lib.Dec.{leb}
 use borrow.Author.Tests.{le-leb, lt-leb, eq-eqb, ne-eqb}
-use Rattle.heap.specs.Memory.{memorySize, bytesOf, put}
+use Rattle.memory.specs.Memory.{memorySize, bytesOf, put}
+use Rattle.memory.specs.Lent.{stored}
+use Rattle.memory.proofs.Exact.{stored-inside}
+use Rattle.memory.proofs.Memory.{length-put}
 use Rattle.heap.specs.Heap.{Block, endSlot, heapStart, putHeader, sound, emptyHeap}
 use Rattle.heap.specs.Lent.{After, started}
 
-pub put-both : (m m₁ m₂ : List ℕ) (header size mark : ℕ) → m₁ ≡ put m header (bytesOf 4 size) → m₂ ≡ put m₁ (header + 4) (bytesOf 4 mark)
-    → m₂ ≡ putHeader m header size mark
+pub put-both : (m m₁ m₂ : List ℕ) (header size mark : ℕ) → length m ≡ memorySize → header ≤ endSlot
+    → m₁ ≡ stored 4 m header size → m₂ ≡ stored 4 m₁ (header + 4) mark → m₂ ≡ putHeader m header size mark
 unfolding putHeader
-put-both m m₁ m₂ header size mark e₁ e₂ = e₂ ∙ ap (λ x. put x (header + 4) (bytesOf 4 mark)) e₁
+put-both m m₁ m₂ header size mark h low e₁ e₂ =
+    let first : m₁ ≡ put m header (bytesOf 4 size) = e₁ ∙ stored-inside 4 m header (omega arith) size in
+    let long : length m₁ ≡ length m = ap length first ∙ length-put m header (bytesOf 4 size) in
+    e₂ ∙ stored-inside 4 m₁ (header + 4) (omega (arith, long)) mark ∙ ap (λ x. put x (header + 4) (bytesOf 4 mark)) first
 
 -- ---- soundness
 

@@ -14,9 +14,9 @@ use borrow.Author.Tests.{le-leb, lt-leb, eq-eqb, ne-eqb, leb-true}
 use Rattle.opcodes.specs.View.{extent}
 use Rattle.heap.specs.declared.Search.{Search}
 use Rattle.heap.specs.declared.Allocation.{Allocation}
-use Rattle.heap.specs.Memory.{memorySize, tableSize, numberAt}
+use Rattle.memory.specs.Memory.{memorySize, tableSize, exact, numberAt}
 use Rattle.heap.specs.Heap.{Block, Made, Alloc, isFree, endSlot, heapStart, blockAt, sound, Walk, unsound, blocks, withBlock, walkFrom, walk, takeBlock, firstFit, allocIn, alloc}
-use Rattle.heap.specs.Lent.{afterAlloc, allocated, exact}
+use Rattle.heap.specs.Lent.{afterAlloc, allocated}
 use Rattle.heap.specs.Search.{firstOf, foundIn, fitIn, Fitting}
 use Rattle.heap.proofs.Blocks.{Same, same-as}
 use Rattle.heap.proofs.Exact.{allocated-exact}

@@ -15,9 +15,9 @@ use lib.Dec.{eqb}
 use borrow.Author.Tests.{eq-eqb, ne-eqb, eqb-true}
 use Rattle.heap.specs.declared.Search.{Search}
 use Rattle.heap.specs.declared.Release.{Release}
-use Rattle.heap.specs.Memory.{memorySize, tableSize, numberAt, paint}
+use Rattle.memory.specs.Memory.{memorySize, tableSize, exact, numberAt, paint}
 use Rattle.heap.specs.Heap.{Block, Freed, Free, isFree, endSlot, heapStart, blockAt, sound, Walk, unsound, blocks, withBlock, walkFrom, walk, putHeader, spare, freeIn, freeWalked, free}
-use Rattle.heap.specs.Lent.{afterFree, released, exact}
+use Rattle.heap.specs.Lent.{afterFree, released}
 use Rattle.heap.specs.Search.{spareOf, spareAt, startOf, startIn, liveIn, wholeOf, Joining}
 use Rattle.heap.proofs.Blocks.{Same, same-as}
 use Rattle.heap.proofs.Exact.{released-exact}

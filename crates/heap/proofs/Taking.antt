@@ -4,7 +4,7 @@ use mathlib.Core.Path.{_≡_, ap, ap₂, _∙_}
 use mathlib.Core.List.{List}
 use native.Mathlib.Omega.{arith}
 use borrow.Author.Tests.{le-leb, lt-leb}
-use Rattle.heap.specs.Memory.{numberAt, paint}
+use Rattle.memory.specs.Memory.{numberAt, paint}
 use Rattle.heap.specs.Heap.{blockAt, putHeader, handOut, takeBlock, paintMade}
 use Rattle.heap.specs.Search.{spareAt}
 

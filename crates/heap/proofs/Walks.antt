@@ -12,7 +12,7 @@ use native.Mathlib.Omega.{arith}
 use lib.Dec.{leb, eqb}
 use borrow.Author.Tests.{eq-eqb, ne-eqb, eqb-true, leb-true}
 use Rattle.heap.specs.declared.Search.{Search}
-use Rattle.heap.specs.Memory.{numberAt}
+use Rattle.memory.specs.Memory.{numberAt}
 use Rattle.heap.specs.Heap.{Block, endSlot, heapStart, blockAt, sound, Walk, unsound, blocks, withBlock, walkFrom, walk}
 use Rattle.heap.specs.Search.{firstOf, foundIn, fitIn, spareOf, startOf, startIn, liveIn}
 

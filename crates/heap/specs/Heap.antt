@@ -5,7 +5,7 @@ use mathlib.Core.List.{List, [], _∷_}
 use mathlib.Core.Bool.{Bool, true, false}
 use lib.Dec.{leb, eqb}
 use Rattle.opcodes.specs.View.{extent}
-use Rattle.heap.specs.Memory.{bytesOf, numberAt, put, fill, paint}
+use Rattle.memory.specs.Memory.{bytesOf, numberAt, put, fill, paint}
 
 -- "The heap begins there": at 28,672; "The end slot at 57,336"
 abbrev pub heapStart : ℕ

@@ -1,22 +1,17 @@
 -- What the functions of the heap answer for lent memory and table of any length, and what both hold afterwards.
 -- At their exact lengths this reads as Memory and Heap say; of another length they are left as they are. These
 -- are words of contracts; no demand cites them.
-use Prim.Native.Nat.{ℕ, _+_}
+use Prim.Native.Nat.{ℕ}
 use mathlib.Core.List.{List, [], _∷_}
-use mathlib.Core.Bool.{Bool, true, false}
+use mathlib.Core.Bool.{true, false}
 use lib.ListN.{length, replicate}
-use lib.Dec.{leb, eqb}
-use Rattle.heap.specs.declared.Load.{Load}
+use lib.Dec.{eqb}
 use Rattle.heap.specs.declared.Allocation.{Allocation}
 use Rattle.heap.specs.declared.Release.{Release}
-use Rattle.heap.specs.Memory.{memorySize, tableSize, slot, bytesOf, numberAt, put, paint}
+use Rattle.memory.specs.Memory.{memorySize, exact}
 use Rattle.heap.specs.Heap.{Made, Freed, Alloc, Free, alloc, free, paintMade, paintFreed, emptyHeap}
 
 -- ---- the answers, by 01's numbers and values; 0 where the run goes on
-
--- "34 read outside memory", or the value that was read
-abbrev pub loadFor : (number value : ℕ) → Load
-loadFor number value = elim (eqb number 34) [ true ↦ Load.Outside | false ↦ Load.Value value ]
 
 -- "11 | memory or table not of its exact length", "38 unsound heap", or the address of the body, if there is one
 abbrev pub madeFor : (bodies : List ℕ) → Allocation
@@ -37,28 +32,6 @@ releaseFor number =
       | true ↦ Release.WrongLength
       | false ↦ elim (eqb number 37) [ true ↦ Release.Bad | false ↦ elim (eqb number 38) [ true ↦ Release.Unsound | false ↦ Release.Freed ] ]
     ]
-
--- ---- loads, stores, colors
-
--- n bytes from an address on lie inside lent memory; at 57,344 bytes this is `inside`
-abbrev pub within : (n : ℕ) → List ℕ → (address : ℕ) → Bool
-within n m address = leb (address + n) (length m)
-
--- "read at address a, low byte first"
-abbrev pub loaded : (n : ℕ) → List ℕ → (address : ℕ) → Load
-loaded n m address = elim (within n m address) [ true ↦ loadFor 0 (numberAt n m address) | false ↦ loadFor 34 0 ]
-
--- "write the low 1 or 4 bytes"
-abbrev pub stored : (n : ℕ) → List ℕ → (address value : ℕ) → List ℕ
-stored n m address value = elim (within n m address) [ true ↦ put m address (bytesOf n value) | false ↦ m ]
-
--- the slots of n bytes from an address on get a color, where the table has them
-abbrev pub painted : (table : List ℕ) → (address n color : ℕ) → List ℕ
-painted table address n color =
-    elim (leb (slot address + slot n) (length table)) [ true ↦ paint table address n color | false ↦ table ]
-
-abbrev pub exact : (memory table : List ℕ) → Bool
-exact m t = elim (eqb (length m) memorySize) [ true ↦ eqb (length t) tableSize | false ↦ false ]
 
 -- what is answered, and what memory and table hold afterwards
 pub record After (Answer : Type 0) : Type 0 where

@@ -1,4 +1,3 @@
-pub mod Memory
 pub mod Heap
 pub mod Lent
 pub mod Search

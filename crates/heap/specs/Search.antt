@@ -7,7 +7,7 @@ use mathlib.Core.Bool.{true, false}
 use lib.ListN.{length}
 use lib.Dec.{leb, eqb}
 use Rattle.heap.specs.declared.Search.{Search}
-use Rattle.heap.specs.Memory.{memorySize, tableSize, numberAt}
+use Rattle.memory.specs.Memory.{memorySize, tableSize, numberAt}
 use Rattle.heap.specs.Heap.{Block, bodyOf, isFree, blockAt, endSlot, Walk, unsound, blocks}
 
 -- ---- ALLOC's search: the header of the first free block that holds the size, 0 while there is none

@@ -2,7 +2,7 @@
 ghost use mathlib.Core.Path.{_≡_};
 ghost use Prim.Native.Nat.{_+_, _-_, _≤_, _<_, _^_};
 ghost use lib.ListN.{length};
-ghost use Rattle.heap.specs.Memory.{memorySize, paint};
+ghost use Rattle.memory.specs.Memory.{memorySize, paint};
 ghost use Rattle.heap.specs.Heap.{endSlot, walk, putHeader};
 ghost use Rattle.heap.specs.Lent.{released};
 ghost use Rattle.heap.specs.Search.{spareOf, spareAt, startOf, liveIn, wholeOf, Joining};
@@ -12,10 +12,11 @@ use crate::MEMORY;
 use crate::Release;
 use crate::Search;
 use crate::TABLE;
-use crate::bytes::number_at;
-use crate::colors::paint_slots;
 use crate::headers::is_sound;
+use crate::headers::mark_at;
 use crate::headers::put_header;
+use crate::headers::size_at;
+use memory::colors::paint;
 
 // What a block adds to a neighbour that joins it: header and body where it is free.
 fn spare_of(size: usize, mark: u32) -> usize
@@ -53,11 +54,11 @@ fn find_live(memory: &[u8], address: usize) -> Search
     let mut spare = 0;
     let mut at = HEAP;
     while at < END {
-        let size = number_at(memory, at) as usize;
+        let size = size_at(memory, at) as usize;
         if !is_sound(at, size) {
             return Search::Unsound;
         }
-        let mark = number_at(memory, at + 4);
+        let mark = mark_at(memory, at);
         start = start_of(start, spare, address, at, mark);
         spare = spare_of(size, mark);
         at = at + 8 + size;
@@ -73,8 +74,8 @@ fn spare_at(memory: &[u8], header: usize) -> usize
     if header == END {
         return 0;
     }
-    let size = number_at(memory, header) as usize;
-    let mark = number_at(memory, header + 4);
+    let size = size_at(memory, header) as usize;
+    let mark = mark_at(memory, header);
     spare_of(size, mark)
 }
 
@@ -85,12 +86,12 @@ fn join(memory: &mut [u8], table: &mut [u8], start: usize, address: usize)
     ensures { λ _. ⌜ now (memory .exit) ≡ putHeader (now (memory .entry)) start (wholeOf (now (memory .entry)) start address) 0 ⌝ }
     ensures { λ _. ⌜ now (table .exit) ≡ paint (now (table .entry)) (start + 8) (wholeOf (now (memory .entry)) start address) 0 ⌝ }
 {
-    let size = number_at(memory, address - 8) as usize;
+    let size = size_at(memory, address - 8) as usize;
     let next = address + size;
     let spare = spare_at(memory, next);
-    let whole = next + spare - start - 8;
-    put_header(memory, start, whole as u32, 0);
-    paint_slots(table, start + 8, whole, 0);
+    let whole = (next + spare - start - 8) as u32;
+    put_header(memory, start, whole, 0);
+    paint(table, start as u32 + 8, whole, 0);
 }
 
 // FREE of an address.

@@ -1,9 +1,7 @@
-// Memory, the color table, and the heap.
+// The heap: its headers, ALLOC and FREE.
 //
 // Memory (57,344 bytes) and table (7,168 bytes) are lent to each function. None of them asks that a
 // lent part has its exact length: of another length it is left as it is, which is what they answer.
-pub mod bytes;
-pub mod colors;
 pub mod freeing;
 pub mod headers;
 pub mod making;
@@ -17,12 +15,6 @@ const TABLE: usize = 7168;
 const HEAP: usize = 28672;
 
 const END: usize = 57336;
-
-// What a load answers.
-pub enum Load {
-    Value(u32),
-    Outside,
-}
 
 // What ALLOC answers.
 pub enum Allocation {

@@ -3,7 +3,7 @@ ghost use mathlib.Core.Path.{_≡_};
 ghost use Prim.Native.Nat.{_+_, _≤_};
 ghost use lib.ListN.{length};
 ghost use Rattle.opcodes.specs.View.{extent};
-ghost use Rattle.heap.specs.Memory.{memorySize, tableSize, paint};
+ghost use Rattle.memory.specs.Memory.{memorySize, tableSize, paint};
 ghost use Rattle.heap.specs.Heap.{Made, endSlot, blockAt, walk, handOut, takeBlock, paintMade};
 ghost use Rattle.heap.specs.Lent.{allocated};
 ghost use Rattle.heap.specs.Search.{firstOf, fitIn, Fitting};
@@ -13,11 +13,12 @@ use crate::HEAP;
 use crate::MEMORY;
 use crate::Search;
 use crate::TABLE;
-use crate::bytes::fill;
-use crate::bytes::number_at;
-use crate::colors::paint_slots;
 use crate::headers::is_sound;
+use crate::headers::mark_at;
 use crate::headers::put_header;
+use crate::headers::size_at;
+use memory::bytes::fill;
+use memory::colors::paint;
 
 // A size rounded up to eight.
 fn extent_of(size: u32) -> usize
@@ -52,11 +53,11 @@ fn first_fit(memory: &[u8], want: usize) -> Search
     let mut found = 0;
     let mut at = HEAP;
     while at < END {
-        let size = number_at(memory, at) as usize;
+        let size = size_at(memory, at) as usize;
         if !is_sound(at, size) {
             return Search::Unsound;
         }
-        let mark = number_at(memory, at + 4);
+        let mark = mark_at(memory, at);
         found = first_of(found, want, at, size, mark);
         at = at + 8 + size;
     }
@@ -103,14 +104,14 @@ fn take_block(
     ensures { λ _. ⌜ now (memory .exit) ≡ takeBlock (now (memory .entry)) (blockAt (now (memory .entry)) header) want mark .memory ⌝ }
     ensures { λ _. ⌜ now (table .exit) ≡ paintMade (now (table .entry)) color (takeBlock (now (memory .entry)) (blockAt (now (memory .entry)) header) want mark) ⌝ }
 {
-    let size = number_at(memory, header) as usize;
+    let size = size_at(memory, header) as usize;
     if size < want + 16 {
         return hand_out(memory, table, header, size, mark, color);
     }
     let rest = header + 8 + want;
     let left = size - want - 8;
     put_header(memory, rest, left as u32, 0);
-    paint_slots(table, rest, 8, 1);
+    paint(table, rest as u32, 8, 1);
     hand_out(memory, table, header, want, mark, color)
 }
 

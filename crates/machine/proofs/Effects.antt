@@ -9,7 +9,7 @@ use mathlib.Core.Bool.{Bool, true, false}
 use lib.ListN.{length, set}
 use lib.Dec.{ltb, eqb}
 use Rattle.opcodes.specs.View.{bytes, Act}
-use Rattle.heap.specs.Memory.{inside}
+use Rattle.memory.specs.Memory.{inside}
 use Rattle.heap.specs.Heap.{Made, Freed, Alloc, Free, alloc, free}
 use Rattle.machine.specs.declared.Reason.{Reason}
 use Rattle.machine.specs.State.{Rule, Given, State, temp}

@@ -16,7 +16,7 @@ use lib.ListN.{length, getD, take, drop, replicate, length-append, take-append-d
 use lib.Seq.{length-take-le, take-at, drop-at, drop-drop}
 use Rattle.opcodes.specs.declared.Instr.{Instr}
 use Rattle.opcodes.specs.View.{view}
-use Rattle.heap.specs.Memory.{memorySize, tableSize}
+use Rattle.memory.specs.Memory.{memorySize, tableSize}
 use Rattle.machine.specs.declared.Reason.{Reason}
 use Rattle.machine.specs.declared.Progress.{Progress}
 use Rattle.machine.specs.declared.Turn.{Turn}

@@ -6,8 +6,9 @@ use lib.ListN.{getD, set}
 use lib.Dec.{ltb}
 use Rattle.opcodes.specs.declared.Instr.{Instr}
 use Rattle.opcodes.specs.View.{Width, inGlobal, atTemp, Act, check}
-use Rattle.heap.specs.Memory.{everyByte, hasColor}
-use Rattle.heap.specs.Lent.{within, loaded, stored, allocated}
+use Rattle.memory.specs.Memory.{everyByte, hasColor}
+use Rattle.memory.specs.Lent.{within, loaded, stored}
+use Rattle.heap.specs.Lent.{allocated}
 use Rattle.machine.specs.declared.Reason.{Reason}
 use Rattle.machine.specs.declared.Turn.{Turn}
 use Rattle.machine.specs.State.{temp}

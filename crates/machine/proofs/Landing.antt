@@ -19,11 +19,12 @@ use lib.Dec.{ltb, leb, eqb}
 use borrow.Author.Tests.{eq-eqb, ltb-true, ltb-false}
 use Rattle.opcodes.specs.declared.Instr.{Instr}
 use Rattle.opcodes.specs.View.{View, Act, act, store, Aim}
-use Rattle.heap.specs.declared.Load.{Load}
+use Rattle.memory.specs.declared.Load.{Load}
 use Rattle.heap.specs.declared.Release.{Release}
-use Rattle.heap.specs.Memory.{memorySize, tableSize, bytesOf, numberAt, put, everyByte, hasColor}
+use Rattle.memory.specs.Memory.{memorySize, tableSize, bytesOf, numberAt, put, everyByte, hasColor}
 use Rattle.heap.specs.Heap.{Alloc, Free, alloc, free}
-use Rattle.heap.specs.Lent.{within, loaded, stored, After, afterAlloc, allocated, afterFree, released}
+use Rattle.memory.specs.Lent.{within, loaded, stored}
+use Rattle.heap.specs.Lent.{After, afterAlloc, allocated, afterFree, released}
 use Rattle.machine.specs.declared.Reason.{Reason}
 use Rattle.machine.specs.declared.Progress.{Progress}
 use Rattle.machine.specs.declared.Turn.{Turn}

@@ -30,7 +30,7 @@ use Rattle.layout.specs.declared.Layout.{Layout}
 use Rattle.layout.specs.Layout.{Piece, piecesOf, startOf, endOf, fits, total, safeSpace, unsafeSpace, unsafeFrom}
 use Rattle.layout.specs.Arrays.{layoutOf}
 use Rattle.layout.proofs.Pieces.{pieces-held}
-use Rattle.heap.specs.Memory.{memorySize, tableSize}
+use Rattle.memory.specs.Memory.{memorySize, tableSize}
 use Rattle.heap.specs.Heap.{paintMade, paintFreed, emptyHeap}
 use Rattle.heap.specs.Lent.{started}
 use Rattle.heap.proofs.Exact.{started-exact}

@@ -9,10 +9,11 @@ use lib.ListN.{length, getD, set}
 use lib.Seq.{set-out}
 use lib.Dec.{eqb}
 use borrow.Author.Tests.{lt-ltb, le-ltb, eq-eqb, ne-eqb}
-use Rattle.heap.specs.declared.Load.{Load}
+use Rattle.memory.specs.declared.Load.{Load}
 use Rattle.heap.specs.declared.Allocation.{Allocation}
 use Rattle.heap.specs.declared.Release.{Release}
-use Rattle.heap.specs.Lent.{within, loaded, stored, allocated, released}
+use Rattle.memory.specs.Lent.{within, loaded, stored}
+use Rattle.heap.specs.Lent.{allocated, released}
 use Rattle.machine.specs.declared.Reason.{Reason}
 use Rattle.machine.specs.declared.Progress.{Progress}
 use Rattle.machine.specs.declared.Turn.{Turn}

@@ -21,11 +21,11 @@ use Rattle.layout.specs.Layout.{pieceOf, piecesOf, startOf, endOf}
 use Rattle.layout.specs.Arrays.{layoutOf}
 use Rattle.layout.proofs.Places.{ends-below}
 use Rattle.layout.proofs.Pieces.{start-held}
-use Rattle.heap.specs.Memory.{tableSize, slot, paint}
+use Rattle.memory.specs.Memory.{tableSize, slot, paint}
 use Rattle.heap.specs.Heap.{heapStart, endSlot}
-use Rattle.heap.specs.Lent.{painted}
-use Rattle.heap.proofs.Exact.{painted-exact}
-use Rattle.heap.proofs.Memory.{length-fill}
+use Rattle.memory.specs.Lent.{painted}
+use Rattle.memory.proofs.Exact.{painted-exact}
+use Rattle.memory.proofs.Memory.{length-fill}
 use Rattle.machine.specs.Colors.{paintGlobals, blankTable, firstTable}
 use Rattle.machine.specs.Start.{paintOne, paintHeld, laidTable}
 

@@ -9,7 +9,7 @@ use native.Mathlib.Omega.{arith}
 use lib.ListN.{length, length-append}
 use lib.Dec.{ltb, eqb}
 use Rattle.opcodes.specs.View.{View, Act, act, jump, jumpIf, store, check, bytes}
-use Rattle.heap.specs.Memory.{inside}
+use Rattle.memory.specs.Memory.{inside}
 use Rattle.heap.specs.Heap.{Alloc, Free, alloc, free}
 use Rattle.machine.specs.declared.Reason.{Reason}
 use Rattle.machine.specs.State.{Rule, Given, State, temp, addressOf}

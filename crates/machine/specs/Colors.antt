@@ -9,7 +9,7 @@ use Rattle.files.specs.declared.Object.{Object}
 use Rattle.files.specs.Program.{Program}
 use Rattle.opcodes.specs.View.{View, act, jump, jumpIf, store, check, extent}
 use Rattle.layout.specs.Layout.{Piece, piecesOf, startOf}
-use Rattle.heap.specs.Memory.{tableSize, hasColor, paint, everyByte}
+use Rattle.memory.specs.Memory.{tableSize, hasColor, paint, everyByte}
 use Rattle.heap.specs.Heap.{heapStart, endSlot, paintMade, paintFreed}
 use Rattle.machine.specs.State.{Rule}
 

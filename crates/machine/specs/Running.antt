@@ -8,7 +8,7 @@ use Rattle.numbers.specs.declared.Refusal.{Refusal}
 use Rattle.files.specs.Program.{Program}
 use Rattle.files.specs.Reading.{Reading, whole, refusal, readFile}
 use Rattle.layout.specs.Layout.{piecesOf, fits}
-use Rattle.heap.specs.Memory.{memorySize, tableSize}
+use Rattle.memory.specs.Memory.{memorySize, tableSize}
 use Rattle.machine.specs.declared.Run.{Run}
 use Rattle.machine.specs.Stop.{refusedRun}
 use Rattle.machine.specs.Runs.{Outcome, runs}

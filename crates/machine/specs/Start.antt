@@ -10,9 +10,10 @@ use Rattle.opcodes.specs.View.{extent}
 use Rattle.files.specs.Reading.{refusal}
 use Rattle.layout.specs.Layout.{Piece, fits}
 use Rattle.layout.specs.Arrays.{piecesIn, layoutOf}
-use Rattle.heap.specs.Memory.{memorySize, tableSize}
+use Rattle.memory.specs.Memory.{memorySize, tableSize}
 use Rattle.heap.specs.Heap.{heapStart, endSlot}
-use Rattle.heap.specs.Lent.{painted, started}
+use Rattle.memory.specs.Lent.{painted}
+use Rattle.heap.specs.Lent.{started}
 use Rattle.machine.specs.Running.{Lent, Answer, refuse, lentOf}
 use Rattle.machine.specs.Turn.{AllNarrow, codeOf, runHeld}
 

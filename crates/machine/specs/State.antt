@@ -7,7 +7,7 @@ use mathlib.Core.Bool.{Bool}
 use lib.ListN.{getD, replicate}
 use Rattle.opcodes.specs.declared.Instr.{Instr}
 use Rattle.opcodes.specs.View.{Aim, inGlobal, atTemp, View}
-use Rattle.heap.specs.Memory.{memorySize}
+use Rattle.memory.specs.Memory.{memorySize}
 use Rattle.heap.specs.Heap.{Made, Freed, emptyHeap}
 
 -- a rule with a state S of its own

@@ -6,7 +6,7 @@ use lib.ListN.{length, getD, set}
 use lib.Dec.{ltb, eqb}
 use Rattle.opcodes.specs.declared.Instr.{Instr}
 use Rattle.opcodes.specs.View.{Aim, inGlobal, atTemp, bytes, Act, View, act, jump, jumpIf, store, check, view}
-use Rattle.heap.specs.Memory.{bytesOf, numberAt, put, inside}
+use Rattle.memory.specs.Memory.{bytesOf, numberAt, put, inside}
 use Rattle.heap.specs.Heap.{Alloc, Free, alloc, free}
 use Rattle.machine.specs.declared.Reason.{Reason}
 use Rattle.machine.specs.State.{Rule, Given, State, temp, addressOf}

@@ -11,9 +11,9 @@ use Rattle.opcodes.specs.declared.Instr.{Instr}
 use Rattle.files.specs.declared.Line.{Line}
 use Rattle.opcodes.specs.Table.{rowOf, partsOf}
 use Rattle.opcodes.specs.View.{view}
-use Rattle.heap.specs.Memory.{memorySize, tableSize}
+use Rattle.memory.specs.Memory.{memorySize, tableSize}
 use Rattle.heap.specs.Heap.{paintMade, paintFreed}
-use Rattle.heap.specs.declared.Load.{Load}
+use Rattle.memory.specs.declared.Load.{Load}
 use Rattle.heap.specs.declared.Allocation.{Allocation}
 use Rattle.heap.specs.declared.Release.{Release}
 use Rattle.heap.specs.Lent.{After, released}

@@ -2,8 +2,9 @@
 ghost use mathlib.Core.Path.{_≡_};
 ghost use Prim.Native.Nat.{_+_, _<_};
 ghost use lib.ListN.{length, getD};
-ghost use Rattle.heap.specs.Memory.{everyByte, hasColor};
-ghost use Rattle.heap.specs.Lent.{within, loaded, stored, allocated};
+ghost use Rattle.memory.specs.Memory.{everyByte, hasColor};
+ghost use Rattle.memory.specs.Lent.{within, loaded, stored};
+ghost use Rattle.heap.specs.Lent.{allocated};
 ghost use Rattle.machine.specs.State.{temp};
 ghost use Rattle.machine.specs.Turn.{Counts, Low, loadTurn, loadTemps, storeTurn, checkTurn};
 ghost use Rattle.machine.specs.Turn.{allocTurn, allocTemps, releaseTurn, freeAt};
@@ -16,8 +17,8 @@ use super::temps::completed;
 use super::temps::passed;
 use super::temps::value;
 use heap::Allocation;
-use heap::Load;
 use heap::Release;
+use memory::Load;
 
 // The start of an object; one that is not there has 0.
 pub(crate) fn start_of(starts: &[u32], g: u16) -> u32
@@ -48,7 +49,7 @@ pub(crate) fn load8(memory: &[u8], temps: &mut [u32], from: Progress, d: u8, a: 
     ensures { λ r. ⌜ r ≡ loadTurn from (loaded 1 (now (memory .entry)) (temp (now (temps .entry)) a)) ⌝ }
     ensures { λ _. ⌜ now (temps .exit) ≡ loadTemps (now (temps .entry)) d (loaded 1 (now (memory .entry)) (temp (now (temps .entry)) a)) ⌝ }
 {
-    let found = heap::bytes::load8(memory, value(temps, a));
+    let found = memory::bytes::load8(memory, value(temps, a));
     match found {
         Load::Value(number) => becomes(temps, from, d, number),
         Load::Outside => Turn::Stop(Reason::ReadOutside),
@@ -60,7 +61,7 @@ pub(crate) fn load32(memory: &[u8], temps: &mut [u32], from: Progress, d: u8, a:
     ensures { λ r. ⌜ r ≡ loadTurn from (loaded 4 (now (memory .entry)) (temp (now (temps .entry)) a)) ⌝ }
     ensures { λ _. ⌜ now (temps .exit) ≡ loadTemps (now (temps .entry)) d (loaded 4 (now (memory .entry)) (temp (now (temps .entry)) a)) ⌝ }
 {
-    let found = heap::bytes::load32(memory, value(temps, a));
+    let found = memory::bytes::load32(memory, value(temps, a));
     match found {
         Load::Value(number) => becomes(temps, from, d, number),
         Load::Outside => Turn::Stop(Reason::ReadOutside),
@@ -73,7 +74,7 @@ pub(crate) fn store8(memory: &mut [u8], temps: &[u32], from: Progress, address: 
     ensures { λ r. ⌜ r ≡ storeTurn from (within 1 (now (memory .entry)) address) ⌝ }
     ensures { λ _. ⌜ now (memory .exit) ≡ stored 1 (now (memory .entry)) address (temp (now (temps .entry)) b) ⌝ }
 {
-    if heap::bytes::store8(memory, address, value(temps, b)) {
+    if memory::bytes::store8(memory, address, value(temps, b)) {
         return completed(from);
     }
     Turn::Stop(Reason::StoreOutside)
@@ -85,7 +86,7 @@ pub(crate) fn store32(memory: &mut [u8], temps: &[u32], from: Progress, address:
     ensures { λ r. ⌜ r ≡ storeTurn from (within 4 (now (memory .entry)) address) ⌝ }
     ensures { λ _. ⌜ now (memory .exit) ≡ stored 4 (now (memory .entry)) address (temp (now (temps .entry)) b) ⌝ }
 {
-    if heap::bytes::store32(memory, address, value(temps, b)) {
+    if memory::bytes::store32(memory, address, value(temps, b)) {
         return completed(from);
     }
     Turn::Stop(Reason::StoreOutside)
@@ -96,7 +97,7 @@ pub(crate) fn check8(table: &[u8], from: Progress, address: u32, color: u8) -> T
     requires { ⌜ Counts from ⌝ }
     ensures { λ r. ⌜ r ≡ checkTurn from (everyByte 1 (hasColor (now (table .entry)) color) address) ⌝ }
 {
-    if heap::colors::check8(table, address, color) {
+    if memory::colors::check8(table, address, color) {
         return passed(from);
     }
     Turn::Stop(Reason::Forbidden)
@@ -106,7 +107,7 @@ pub(crate) fn check32(table: &[u8], from: Progress, address: u32, color: u8) -> 
     requires { ⌜ Counts from ⌝ }
     ensures { λ r. ⌜ r ≡ checkTurn from (everyByte 4 (hasColor (now (table .entry)) color) address) ⌝ }
 {
-    if heap::colors::check32(table, address, color) {
+    if memory::colors::check32(table, address, color) {
         return passed(from);
     }
     Turn::Stop(Reason::Forbidden)

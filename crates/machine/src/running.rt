@@ -2,7 +2,7 @@
 ghost use mathlib.Core.Path.{_≡_};
 ghost use Prim.Native.Nat.{_≤_};
 ghost use lib.ListN.{length};
-ghost use Rattle.heap.specs.Memory.{memorySize, tableSize};
+ghost use Rattle.memory.specs.Memory.{memorySize, tableSize};
 ghost use Rattle.machine.specs.Turn.{codeOf, Low, AllNarrow, runHeld};
 use super::Progress;
 use super::Reason;

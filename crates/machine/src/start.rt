@@ -36,7 +36,7 @@ fn paint_one(table: &mut [u8], kind: u8, start: u32, size: u16, color: u8)
     ensures { λ _. ⌜ now (table .exit) ≡ paintOne (now (table .entry)) kind start size color ⌝ }
 {
     if kind == 0 {
-        heap::colors::paint(table, start, extent_of(size), color);
+        memory::colors::paint(table, start, extent_of(size), color);
     }
 }
 
@@ -52,14 +52,14 @@ fn lay_table(
     requires { ⌜ objects ≤ 400 ⌝ }
     ensures { λ _. ⌜ now (table .exit) ≡ laidTable starts kinds sizes colors objects (now (table .entry)) ⌝ }
 {
-    heap::bytes::fill(table, 0);
+    memory::bytes::fill(table, 0);
     let mut g = 0;
     while g < objects {
         paint_one(table, kinds[g], starts[g], sizes[g], colors[g]);
         g += 1;
     }
-    heap::colors::paint(table, 28672, 8, 1);
-    heap::colors::paint(table, 57336, 8, 1);
+    memory::colors::paint(table, 28672, 8, 1);
+    memory::colors::paint(table, 57336, 8, 1);
 }
 
 // Runs what was read. Refusal 9 comes before anything is changed.

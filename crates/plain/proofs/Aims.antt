@@ -16,7 +16,7 @@ use Rattle.safety.specs.Unsafe.{safeAim, setOf, Unsafe, unsafeSet, setsIn, unsa
 use Rattle.safety.proofs.Stores.{unsafe-one}
 use Rattle.coloring.specs.Class.{holds, some, unsafeObject}
 use Rattle.coloring.proofs.Members.{some-here, some-behind, holds-at}
-use Rattle.heap.specs.Memory.{memorySize, inside}
+use Rattle.memory.specs.Memory.{memorySize, inside}
 use Rattle.machine.specs.Step.{widthOf}
 use Rattle.plain.proofs.Good.{Fine, Good}
 

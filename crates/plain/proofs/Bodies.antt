@@ -8,7 +8,7 @@ use mathlib.Core.Bool.{Bool, true, false, false≢true}
 use lib.ListN.{length}
 use lib.Dec.{eqb, ltb}
 use borrow.Author.Tests.{eq-eqb, ne-eqb, lt-ltb, le-ltb, ltb-true, ltb-false}
-use Rattle.heap.specs.Memory.{colorAt}
+use Rattle.memory.specs.Memory.{colorAt}
 use Rattle.heap.specs.Heap.{Block, isFree}
 use Rattle.plain.proofs.HeapBlocks.{tint, Segment, segment-long}
 use Rattle.plain.proofs.HeapAlloc.{AllFree}

@@ -11,7 +11,7 @@ use Rattle.safety.specs.Unsafe.{safeAim, setOf, Unsafe, unsafeIn}
 use Rattle.coloring.specs.Color.{colorOfSet}
 use Rattle.safety.proofs.Stores.{unsafeStore, unsafe-one, Stores, stores}
 use Rattle.layout.specs.Layout.{startOf}
-use Rattle.heap.specs.Memory.{hasColor, everyByte}
+use Rattle.memory.specs.Memory.{hasColor, everyByte}
 use Rattle.routines.specs.Accepted.{plainPieces, Accepted}
 use Rattle.machine.specs.State.{Given, State, addressOf}
 use Rattle.machine.specs.Step.{widthOf, lets}

@@ -9,9 +9,9 @@ use lib.ListN.{length, getD}
 use lib.Dec.{eqb, leb}
 use borrow.Author.Tests.{eqb-false, ne-eqb, leb-true}
 use Rattle.opcodes.specs.View.{extent}
-use Rattle.heap.specs.Memory.{memorySize, tableSize, colorAt, paint}
+use Rattle.memory.specs.Memory.{memorySize, tableSize, colorAt, paint}
 use Rattle.heap.specs.Heap.{heapStart, endSlot, Block, bodyOf, isFree, putHeader, handOut, blocks, walk, Made, Alloc, takeBlock, firstFit, allocIn, alloc, paintMade}
-use Rattle.heap.proofs.Memory.{numberAt-same, length-paint, paint-outside, paint-inside}
+use Rattle.memory.proofs.Memory.{numberAt-same, length-paint, paint-outside, paint-inside}
 use Rattle.plain.proofs.HeapHeaders.{length-putHeader, putHeader-outside, header-size, header-mark, length-handOut, handOut-outside, handOut-size, handOut-mark}
 use Rattle.plain.proofs.HeapBlocks.{tint, Stands, Segment, Swap, segment-long, segment-whole, segment-append, segment-walk, segment-swaps}
 

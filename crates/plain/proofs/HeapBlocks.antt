@@ -14,9 +14,9 @@ use mathlib.Core.Bool.{true, false}
 use lib.ListN.{length, getD}
 use lib.Dec.{eqb, leb}
 use borrow.Author.Tests.{eq-eqb, le-leb}
-use Rattle.heap.specs.Memory.{numberAt, colorAt}
+use Rattle.memory.specs.Memory.{numberAt, colorAt}
 use Rattle.heap.specs.Heap.{endSlot, Block, isFree, blockAt, sound, blocks, withBlock, walkFrom}
-use Rattle.heap.proofs.Memory.{numberAt-same}
+use Rattle.memory.proofs.Memory.{numberAt-same}
 use Rattle.heap.proofs.Walks.{walk-end, walk-goes}
 
 -- the color of a block's body: its site's, and 0 where the block is free

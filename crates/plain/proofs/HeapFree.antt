@@ -8,9 +8,9 @@ use mathlib.Core.Bool.{Bool, true, false}
 use lib.ListN.{length}
 use lib.Dec.{eqb}
 use borrow.Author.Tests.{eqb-true}
-use Rattle.heap.specs.Memory.{memorySize, tableSize, colorAt, paint}
+use Rattle.memory.specs.Memory.{memorySize, tableSize, colorAt, paint}
 use Rattle.heap.specs.Heap.{heapStart, endSlot, Block, bodyOf, isFree, putHeader, Freed, Free, spare, release, freeIn, free, paintFreed}
-use Rattle.heap.proofs.Memory.{length-paint, paint-outside, paint-inside}
+use Rattle.memory.proofs.Memory.{length-paint, paint-outside, paint-inside}
 use Rattle.plain.proofs.HeapHeaders.{length-putHeader, putHeader-outside, header-size, header-mark}
 use Rattle.plain.proofs.HeapBlocks.{Segment, Swap, segment-long, segment-whole, segment-append, segment-swaps}
 use Rattle.plain.proofs.HeapAlloc.{Tied, tied-walk, AllFree}

@@ -5,9 +5,9 @@ use native.Mathlib.Omega.{arith}
 use mathlib.Core.Path.{_≡_, _∙_}
 use mathlib.Core.List.{List}
 use lib.ListN.{length, getD}
-use Rattle.heap.specs.Memory.{bytesOf, numberAt, put}
+use Rattle.memory.specs.Memory.{bytesOf, numberAt, put}
 use Rattle.heap.specs.Heap.{putHeader, handOut}
-use Rattle.heap.proofs.Memory.{length-put, put-outside, length-fill, fill-outside, length-bytesOf, numberAt-same, numberAt-put}
+use Rattle.memory.proofs.Memory.{length-put, put-outside, length-fill, fill-outside, length-bytesOf, numberAt-same, numberAt-put}
 
 module _ (m : List ℕ) (header size mark : ℕ) where
   pub length-putHeader : length (putHeader m header size mark) ≡ length m

@@ -23,13 +23,13 @@ use Rattle.files.specs.Program.{Program}
 use Rattle.safety.specs.Unsafe.{unsafeSets}
 use Rattle.coloring.specs.Class.{unsafeObject}
 use Rattle.plain.specs.Guards.{Exact}
-use Rattle.heap.specs.Memory.{memorySize, colorAt, put, everyByte}
+use Rattle.memory.specs.Memory.{memorySize, colorAt, put, everyByte}
 use Rattle.heap.specs.Heap.{heapStart, endSlot, Block, Made, Freed, paintMade, paintFreed}
-use Rattle.heap.proofs.Memory.{length-put, put-outside, everyByte-same}
+use Rattle.memory.proofs.Memory.{length-put, put-outside, everyByte-same}
 use Rattle.plain.proofs.HeapBlocks.{segment-keeps}
 use Rattle.plain.proofs.HeapAlloc.{Tied, Handed}
 use Rattle.plain.proofs.HeapFree.{Released}
-use Rattle.heap.specs.Memory.{hasColor}
+use Rattle.memory.specs.Memory.{hasColor}
 use Rattle.plain.specs.Live.{Live, owns, adding, removing, liveMaking, liveFreeing}
 use Rattle.plain.specs.Plain.{globals, inClass}
 use Rattle.plain.proofs.Owners.{Each, each-append, each-map, owns-outside, Tells, tells-append, tells-class}

@@ -30,13 +30,13 @@ use Rattle.safety.specs.Unsafe.{safeAim, setOf, Unsafe, unsafeIn, sizeOf}
 use Rattle.safety.proofs.Stores.{unsafeStore, safe-none, unsafe-one}
 use Rattle.layout.specs.Layout.{startOf, fits}
 use Rattle.instrumenter.proofs.Guarded.{movedView, view-moved, view-check}
-use Rattle.heap.specs.Memory.{memorySize, colorAt, bytesOf, put, everyByte, inside}
+use Rattle.memory.specs.Memory.{memorySize, colorAt, bytesOf, put, everyByte, inside}
 use Rattle.heap.specs.Heap.{heapStart}
-use Rattle.heap.proofs.Memory.{length-bytesOf, everyByte-each}
+use Rattle.memory.proofs.Memory.{length-bytesOf, everyByte-each}
 use Rattle.machine.specs.declared.Reason.{Reason}
 use Rattle.machine.specs.State.{Given, State, temp, addressOf}
 use Rattle.machine.specs.Step.{Effect, stops, passes, completes, stop, next, widthOf, storing, conclude, effect, nextAt, lets, perform, step}
-use Rattle.heap.specs.Memory.{hasColor}
+use Rattle.memory.specs.Memory.{hasColor}
 use Rattle.machine.proofs.Steps.{step-past, step-limit, step-goes}
 use Rattle.machine.proofs.Effects.{Calm, image, Follows, act-follows}
 use Rattle.plain.specs.Live.{Live}

@@ -6,9 +6,9 @@ use mathlib.Core.Path.{_≡_, refl, sym, _∙_}
 use mathlib.Core.List.{List, [], _∷_}
 use mathlib.Core.Bool.{true, false, false≢true}
 use lib.ListN.{length}
-use Rattle.heap.specs.Memory.{tableSize, colorAt, paint}
+use Rattle.memory.specs.Memory.{tableSize, colorAt, paint}
 use Rattle.heap.specs.Heap.{heapStart}
-use Rattle.heap.proofs.Memory.{length-paint, paint-outside, paint-inside}
+use Rattle.memory.proofs.Memory.{length-paint, paint-outside, paint-inside}
 use Rattle.plain.specs.Live.{Live, owns}
 use Rattle.plain.proofs.Owners.{Each, owns-is, owns-inside}
 

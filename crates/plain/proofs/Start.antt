@@ -12,9 +12,9 @@ use Rattle.safety.specs.Unsafe.{unsafeSets}
 use Rattle.coloring.specs.Colored.{tinted}
 use Rattle.layout.specs.Layout.{fits, piecesOf}
 use Rattle.plain.specs.Guards.{Guards}
-use Rattle.heap.specs.Memory.{memorySize, tableSize, colorAt, paint}
+use Rattle.memory.specs.Memory.{memorySize, tableSize, colorAt, paint}
 use Rattle.heap.specs.Heap.{heapStart, endSlot, Block, emptyHeap}
-use Rattle.heap.proofs.Memory.{length-paint, paint-outside, paint-inside}
+use Rattle.memory.proofs.Memory.{length-paint, paint-outside, paint-inside}
 use Rattle.plain.proofs.HeapHeaders.{length-putHeader, header-size, header-mark}
 use Rattle.plain.proofs.HeapAlloc.{Tied}
 use Rattle.machine.specs.State.{blankMemory}

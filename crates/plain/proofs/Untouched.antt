@@ -18,8 +18,8 @@ use Rattle.safety.proofs.Stores.{unsafeStore, safe-none, unsafe-one}
 use Rattle.coloring.specs.Class.{unsafeObject}
 use Rattle.layout.specs.Layout.{startOf, fits}
 use Rattle.instrumenter.proofs.Guarded.{movedView, view-moved, view-check}
-use Rattle.heap.specs.Memory.{memorySize, colorAt, put, bytesOf}
-use Rattle.heap.proofs.Memory.{put-outside, length-bytesOf}
+use Rattle.memory.specs.Memory.{memorySize, colorAt, put, bytesOf}
+use Rattle.memory.proofs.Memory.{put-outside, length-bytesOf}
 use Rattle.machine.specs.State.{Given, State, startState, temp, addressOf}
 use Rattle.machine.specs.Step.{next, widthOf, step}
 use Rattle.machine.specs.Colors.{tableRule, firstTable}

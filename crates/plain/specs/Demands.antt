@@ -16,7 +16,7 @@ use Rattle.coloring.specs.Class.{holds, Chain, sameClass}
 use Rattle.coloring.specs.Color.{Legal, Keeps, Numbering, colorOfSet, colorOf}
 use Rattle.coloring.specs.Colored.{colorIn, classCount}
 use Rattle.layout.specs.Layout.{piecesOf, endOf}
-use Rattle.heap.specs.Memory.{memorySize, colorAt}
+use Rattle.memory.specs.Memory.{memorySize, colorAt}
 use Rattle.routines.specs.Accepted.{plainPieces, Accepted}
 use Rattle.instrumenter.specs.Instrumented.{instrumented}
 use Rattle.instrumenter.specs.Answer.{Answer, file, instrument, roomHolding}

@@ -12,7 +12,7 @@ use Rattle.safety.specs.Unsafe.{Unsafe, unsafeIn, unsafeSets}
 use Rattle.coloring.specs.Class.{sameClass}
 use Rattle.layout.specs.Layout.{Piece, startOf}
 use Rattle.routines.specs.Accepted.{plainPieces}
-use Rattle.heap.specs.Memory.{everyByte}
+use Rattle.memory.specs.Memory.{everyByte}
 use Rattle.machine.specs.State.{Rule, Given}
 use Rattle.machine.specs.Runs.{Outcome, runs}
 use Rattle.plain.specs.Live.{Live, owns, someLive, liveMaking, liveFreeing}

@@ -17,7 +17,7 @@ use Rattle.layout.specs.Layout.{total, startOf, fits, piecesOf}
 use Rattle.routines.specs.Accepted.{plainPiecesFrom}
 use Rattle.instrumenter.specs.Instrumented.{guarded, spanOf, newPlace, instrumented}
 use Rattle.instrumenter.specs.Answer.{instrument}
-use Rattle.heap.specs.Memory.{bytesOf, numberAt, put, fill, colorAt, everyByte}
+use Rattle.memory.specs.Memory.{bytesOf, numberAt, put, fill, colorAt, everyByte}
 use Rattle.heap.specs.Heap.{walk, blockAt, putHeader, sound, walkFrom, takeBlock, firstFit, alloc, freeIn, free, emptyHeap}
 use Rattle.machine.specs.Stop.{placesIn}
 use Rattle.machine.specs.State.{blankMemory}

@@ -17,7 +17,7 @@ use Rattle.safety.specs.Unsafe.{safeAim}
 use Rattle.coloring.specs.Colored.{colorIn}
 use Rattle.layout.specs.Layout.{startOf, endOf, piecesOf}
 use Rattle.instrumenter.specs.Answer.{Answer, file, instrument}
-use Rattle.heap.specs.Memory.{memorySize, tableSize, colorAt}
+use Rattle.memory.specs.Memory.{memorySize, tableSize, colorAt}
 use Rattle.heap.specs.Heap.{Walk, unsound, blocks, walk}
 use Rattle.machine.specs.Stop.{numberOf, placeOf}
 use Rattle.machine.specs.Colors.{firstTable}

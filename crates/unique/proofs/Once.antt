@@ -17,7 +17,8 @@ use Rattle.unique.specs.Once.{writer-write-program}
 use Rattle.unique.specs.Once.{safety-by-opcode, safety-nature-of}
 use Rattle.unique.specs.Once.{coloring-read-colored}
 use Rattle.unique.specs.Once.{layout-lay-out}
-use Rattle.unique.specs.Once.{heap-fill, heap-load8, heap-load32, heap-store8, heap-store32, heap-check8, heap-check32, heap-paint, heap-start, heap-alloc, heap-free}
+use Rattle.unique.specs.Once.{memory-fill, memory-load8, memory-load32, memory-number-at, memory-store8, memory-store32, memory-check8, memory-check32, memory-paint, memory-are-exact}
+use Rattle.unique.specs.Once.{heap-start, heap-alloc, heap-free}
 use Rattle.unique.specs.Once.{instrumenter-instrument}
 use Rattle.unique.specs.Once.{machine-run-file}
 use Rattle.unique.specs.Once.{controller-control, controller-numbers-of, controller-toltjebrim-control}
@@ -132,31 +133,39 @@ coloring-read-colored-once file = once
 pub layout-lay-out-once : layout-lay-out
 layout-lay-out-once kinds sizes colors objects = once
 
+-- ---- memory
+
+pub memory-fill-once : memory-fill
+memory-fill-once part value = once
+
+pub memory-load8-once : memory-load8
+memory-load8-once memory address = once
+
+pub memory-load32-once : memory-load32
+memory-load32-once memory address = once
+
+pub memory-number-at-once : memory-number-at
+memory-number-at-once memory address = once
+
+pub memory-store8-once : memory-store8
+memory-store8-once memory address value = pair-once
+
+pub memory-store32-once : memory-store32
+memory-store32-once memory address value = pair-once
+
+pub memory-check8-once : memory-check8
+memory-check8-once table address color = once
+
+pub memory-check32-once : memory-check32
+memory-check32-once table address color = once
+
+pub memory-paint-once : memory-paint
+memory-paint-once table address count color = once
+
+pub memory-are-exact-once : memory-are-exact
+memory-are-exact-once memory table = once
+
 -- ---- heap
-
-pub heap-fill-once : heap-fill
-heap-fill-once part value = once
-
-pub heap-load8-once : heap-load8
-heap-load8-once memory address = once
-
-pub heap-load32-once : heap-load32
-heap-load32-once memory address = once
-
-pub heap-store8-once : heap-store8
-heap-store8-once memory address value = pair-once
-
-pub heap-store32-once : heap-store32
-heap-store32-once memory address value = pair-once
-
-pub heap-check8-once : heap-check8
-heap-check8-once table address color = once
-
-pub heap-check32-once : heap-check32
-heap-check32-once table address color = once
-
-pub heap-paint-once : heap-paint
-heap-paint-once table address count color = once
 
 pub heap-start-once : heap-start
 heap-start-once memory = once

@@ -25,11 +25,12 @@ use Rattle.files.specs.Held.{held, writtenIn, roomWith}
 use Rattle.safety.specs.Nature.{natureOf, sizesIn}
 use Rattle.coloring.specs.Colored.{colored}
 use Rattle.layout.specs.Arrays.{piecesIn, layoutOf}
+use Rattle.memory.specs.Memory.{exact, hasColor, everyByte}
+use Rattle.memory.specs.Lent
+use Rattle.memory.specs.Lent.{numberWithin, loaded, stored, painted}
 use Rattle.heap.specs.declared.Allocation.{Allocation}
 use Rattle.heap.specs.declared.Release.{Release}
-use Rattle.heap.specs.Memory.{hasColor, everyByte}
-use Rattle.heap.specs.Lent
-use Rattle.heap.specs.Lent.{loaded, stored, painted, allocated, released, started}
+use Rattle.heap.specs.Lent.{allocated, released, started}
 use Rattle.instrumenter.specs.declared.Instrumented.{Instrumented}
 use Rattle.instrumenter.specs.Answer.{instrument, told, roomHolding}
 use Rattle.machine.specs.declared.Run.{Run}
@@ -130,35 +131,43 @@ abbrev pub layout-lay-out : Type 0
 layout-lay-out =
     (kinds sizes colors : List ℕ) (objects : ℕ) → Once (λ r. r ≡ layoutOf (piecesIn kinds sizes colors objects))
 
--- ---- heap
+-- ---- memory
 
-abbrev pub heap-fill : Type 0
-heap-fill = (part : List ℕ) (value : ℕ) → Once (λ part′. part′ ≡ replicate (length part) value)
+abbrev pub memory-fill : Type 0
+memory-fill = (part : List ℕ) (value : ℕ) → Once (λ part′. part′ ≡ replicate (length part) value)
 
-abbrev pub heap-load8 : Type 0
-heap-load8 = (memory : List ℕ) (address : ℕ) → Once (λ r. r ≡ loaded 1 memory address)
+abbrev pub memory-load8 : Type 0
+memory-load8 = (memory : List ℕ) (address : ℕ) → Once (λ r. r ≡ loaded 1 memory address)
 
-abbrev pub heap-load32 : Type 0
-heap-load32 = (memory : List ℕ) (address : ℕ) → Once (λ r. r ≡ loaded 4 memory address)
+abbrev pub memory-load32 : Type 0
+memory-load32 = (memory : List ℕ) (address : ℕ) → Once (λ r. r ≡ loaded 4 memory address)
 
-abbrev pub heap-store8 : Type 0
-heap-store8 =
+abbrev pub memory-number-at : Type 0
+memory-number-at = (memory : List ℕ) (address : ℕ) → Once (λ r. r ≡ numberWithin 4 memory address)
+
+abbrev pub memory-store8 : Type 0
+memory-store8 =
     (memory : List ℕ) (address value : ℕ)
     → Once {A = Bool × List ℕ} (λ (r, memory′). (r ≡ Lent.within 1 memory address) × (memory′ ≡ stored 1 memory address value))
 
-abbrev pub heap-store32 : Type 0
-heap-store32 =
+abbrev pub memory-store32 : Type 0
+memory-store32 =
     (memory : List ℕ) (address value : ℕ)
     → Once {A = Bool × List ℕ} (λ (r, memory′). (r ≡ Lent.within 4 memory address) × (memory′ ≡ stored 4 memory address value))
 
-abbrev pub heap-check8 : Type 0
-heap-check8 = (table : List ℕ) (address color : ℕ) → Once (λ r. r ≡ everyByte 1 (hasColor table color) address)
+abbrev pub memory-check8 : Type 0
+memory-check8 = (table : List ℕ) (address color : ℕ) → Once (λ r. r ≡ everyByte 1 (hasColor table color) address)
 
-abbrev pub heap-check32 : Type 0
-heap-check32 = (table : List ℕ) (address color : ℕ) → Once (λ r. r ≡ everyByte 4 (hasColor table color) address)
+abbrev pub memory-check32 : Type 0
+memory-check32 = (table : List ℕ) (address color : ℕ) → Once (λ r. r ≡ everyByte 4 (hasColor table color) address)
 
-abbrev pub heap-paint : Type 0
-heap-paint = (table : List ℕ) (address count color : ℕ) → Once (λ table′. table′ ≡ painted table address count color)
+abbrev pub memory-paint : Type 0
+memory-paint = (table : List ℕ) (address count color : ℕ) → Once (λ table′. table′ ≡ painted table address count color)
+
+abbrev pub memory-are-exact : Type 0
+memory-are-exact = (memory table : List ℕ) → Once (λ r. r ≡ exact memory table)
+
+-- ---- heap
 
 abbrev pub heap-start : Type 0
 heap-start = (memory : List ℕ) → Once (λ memory′. memory′ ≡ started memory)

@@ -21,8 +21,8 @@ abbrev μ-loop : tie.MeasureT-loop
 loop-holds : tie.Need-loop-holds Inv-loop μ-loop
 loop-holds c = (way-starts _ _, omega arith)
 
-number-at-requires : tie.Need-number-at-requires Inv-loop μ-loop
-number-at-requires c κs = omega (arith, c .before .loop .inv .0 .high)
+size-at-requires : tie.Need-size-at-requires Inv-loop μ-loop
+size-at-requires c κs = omega (arith, c .before .loop .inv .0 .high)
 
 cast-size : tie.Need-cast-size Inv-loop μ-loop
 cast-size c = omega arith
@@ -31,15 +31,12 @@ is-sound-requires : tie.Need-is-sound-requires Inv-loop μ-loop
 is-sound-requires c κs = omega arith
 
 returns : tie.Need-returns Inv-loop μ-loop
-returns c = way-stops (c .before .before .before .before .loop .inv .0) (c .before .before .number-at .result)
-    (c .before .before .before .loop-test .taken) (c .before .before .number-at .ensures)
+returns c = way-stops (c .before .before .before .before .loop .inv .0) (c .before .before .size-at .result)
+    (c .before .before .before .loop-test .taken) (c .before .before .size-at .ensures)
     (sym (c .before .is-sound .ensures) ∙ not-true _ (c .if1 .taken))
 
-add-number-at : tie.Need-add-number-at Inv-loop μ-loop
-add-number-at c = omega arith
-
-number-at-requires-2 : tie.Need-number-at-requires-2 Inv-loop μ-loop
-number-at-requires-2 c κs = omega arith
+mark-at-requires : tie.Need-mark-at-requires Inv-loop μ-loop
+mark-at-requires c κs = omega arith
 
 start-of-requires : tie.Need-start-of-requires Inv-loop μ-loop
 start-of-requires c κs = (omega (arith, c .before .before .before .before .before .loop .inv .1), c .before .before .before .before .before .loop .inv .0 .high)
@@ -55,7 +52,7 @@ add-at-2 c = omega arith
 
 loop-less : tie.Need-loop-less Inv-loop μ-loop
 loop-less c = let w = c .before .before .before .before .before .before .before .loop in
-    let size = c .before .before .before .before .before .number-at in
+    let size = c .before .before .before .before .before .size-at in
     let below : w .at < endSlot = c .before .before .before .before .before .before .loop-test .taken in
     let known : Sound (w .at) (size .result) = says (w .inv .0) (size .result) below (size .ensures)
     (sym (c .before .before .before .before .is-sound .ensures) ∙ not-false _ (c .before .before .before .if1 .left)) in
@@ -63,8 +60,8 @@ loop-less c = let w = c .before .before .before .before .before .before .before 
 
 loop-again : tie.Need-loop-again Inv-loop μ-loop
 loop-again c = let w = c .before .before .before .before .before .before .before .loop in
-    let size = c .before .before .before .before .before .number-at in
-    let mark = c .before .before .number-at2 in
+    let size = c .before .before .before .before .before .size-at in
+    let mark = c .before .before .mark-at in
     let below : w .at < endSlot = c .before .before .before .before .before .before .loop-test .taken in
     let s = sym (c .before .before .before .before .is-sound .ensures) ∙ not-false _ (c .before .before .before .if1 .left) in
     let spared = spare-below (w .at) (size .result) (mark .result) (c .spare-of .result) (c .spare-of .ensures) in (
@@ -84,12 +81,11 @@ find-live-spec =
     Inv-loop
     μ-loop
     loop-holds
-    number-at-requires
+    size-at-requires
     cast-size
     is-sound-requires
     returns
-    add-number-at
-    number-at-requires-2
+    mark-at-requires
     start-of-requires
     spare-of-requires
     add-at

@@ -19,8 +19,8 @@ abbrev μ-loop : tie.MeasureT-loop
 loop-holds : tie.Need-loop-holds Inv-loop μ-loop
 loop-holds c = way-starts _ _
 
-number-at-requires : tie.Need-number-at-requires Inv-loop μ-loop
-number-at-requires c κs = omega (arith, c .before .loop .inv .high)
+size-at-requires : tie.Need-size-at-requires Inv-loop μ-loop
+size-at-requires c κs = omega (arith, c .before .loop .inv .high)
 
 cast-size : tie.Need-cast-size Inv-loop μ-loop
 cast-size c = omega arith
@@ -29,15 +29,12 @@ is-sound-requires : tie.Need-is-sound-requires Inv-loop μ-loop
 is-sound-requires c κs = omega arith
 
 returns : tie.Need-returns Inv-loop μ-loop
-returns c = way-stops (c .before .before .before .before .loop .inv) (c .before .before .number-at .result)
-    (c .before .before .before .loop-test .taken) (c .before .before .number-at .ensures)
+returns c = way-stops (c .before .before .before .before .loop .inv) (c .before .before .size-at .result)
+    (c .before .before .before .loop-test .taken) (c .before .before .size-at .ensures)
     (sym (c .before .is-sound .ensures) ∙ not-true _ (c .if1 .taken))
 
-add-number-at : tie.Need-add-number-at Inv-loop μ-loop
-add-number-at c = omega arith
-
-number-at-requires-2 : tie.Need-number-at-requires-2 Inv-loop μ-loop
-number-at-requires-2 c κs = omega arith
+mark-at-requires : tie.Need-mark-at-requires Inv-loop μ-loop
+mark-at-requires c κs = omega arith
 
 first-of-requires : tie.Need-first-of-requires Inv-loop μ-loop
 first-of-requires c κs = tt
@@ -50,19 +47,19 @@ add-at-2 c = omega arith
 
 loop-less : tie.Need-loop-less Inv-loop μ-loop
 loop-less c = let known : Sound (c .before .before .before .before .before .before .loop .at)
-    (c .before .before .before .before .number-at .result) =
-    says (c .before .before .before .before .before .before .loop .inv) (c .before .before .before .before .number-at .result)
-    (c .before .before .before .before .before .loop-test .taken) (c .before .before .before .before .number-at .ensures)
+    (c .before .before .before .before .size-at .result) =
+    says (c .before .before .before .before .before .before .loop .inv) (c .before .before .before .before .size-at .result)
+    (c .before .before .before .before .before .loop-test .taken) (c .before .before .before .before .size-at .ensures)
     (sym (c .before .before .before .is-sound .ensures) ∙ not-false _ (c .before .before .if1 .left)) in
     omega (arith, c .before .before .before .before .before .loop-test .taken)
 
 loop-again : tie.Need-loop-again Inv-loop μ-loop
 loop-again c = way-goes (c .before .before .before .before .before .before .loop .inv)
-    (c .before .before .before .before .number-at .result) (c .before .before .before .before .before .loop-test .taken)
-    (c .before .before .before .before .number-at .ensures) (c .before .number-at2 .result) (c .before .number-at2 .ensures)
+    (c .before .before .before .before .size-at .result) (c .before .before .before .before .before .loop-test .taken)
+    (c .before .before .before .before .size-at .ensures) (c .before .mark-at .result) (c .before .mark-at .ensures)
     (sym (c .before .before .before .is-sound .ensures) ∙ not-false _ (c .before .before .if1 .left)) _
     (fit-step _ _ (blockOf (c .before .before .before .before .before .before .loop .at)
-    (c .before .before .before .before .number-at .result) (c .before .number-at2 .result)) _ (c .first-of .ensures))
+    (c .before .before .before .before .size-at .result) (c .before .mark-at .result)) _ (c .first-of .ensures))
 
 returns-2 : tie.Need-returns-2 Inv-loop μ-loop
 unfolding foundIn
@@ -75,12 +72,11 @@ first-fit-spec =
     Inv-loop
     μ-loop
     loop-holds
-    number-at-requires
+    size-at-requires
     cast-size
     is-sound-requires
     returns
-    add-number-at
-    number-at-requires-2
+    mark-at-requires
     first-of-requires
     add-at
     add-at-2

@@ -4,8 +4,8 @@ use mathlib.Core.Path.{refl, ap, _∙_}
 use native.Mathlib.Omega.{arith}
 use lib.ListN.{length}
 use borrow.Author.Needs.{needs}
-use Rattle.heap.specs.Memory.{slot, fill}
-use Rattle.heap.proofs.Parts.{part-filled}
+use Rattle.memory.specs.Memory.{slot, fill}
+use Rattle.memory.proofs.Parts.{part-filled}
 use Rattle.heap.proofs.making.hand_out.Statement.{statement}
 use Rattle.heap.proofs.making.hand_out.Tie as tie
 

@@ -1,11 +1,16 @@
 -- `heap::making::take_block` meets its contract. Whole or cut, by the laws of Taking.
+use Prim.Native.Nat.{_+_, _≤_}
+use mathlib.Core.Path.{_∙_}
+use native.Mathlib.Omega.{arith}
 use borrow.Author.Needs.{needs}
+use Rattle.memory.specs.Memory.{numberAt}
+use Rattle.memory.proofs.Exact.{painted-exact}
 use Rattle.heap.proofs.Taking.{taken-whole, taken-cut}
 use Rattle.heap.proofs.making.take_block.Statement.{statement}
 use Rattle.heap.proofs.making.take_block.Tie as tie
 
-number-at-requires : tie.Need-number-at-requires
-number-at-requires c κs = search needs
+size-at-requires : tie.Need-size-at-requires
+size-at-requires c κs = search needs
 
 cast-size : tie.Need-cast-size
 cast-size c = search needs
@@ -26,7 +31,7 @@ returns : tie.Need-returns
 returns c = let s = c .before .before .before .before .before .before .before .before .before .before .before .before .args in
     let out = c .before .before .before .before .hand-out in
     taken-whole (s .memory .now) (s .table .now) (s .header) (s .want) (s .mark) (s .color) _ _ _ _
-    (c .before .before .before .before .before .before .before .before .number-at .ensures)
+    (c .before .before .before .before .before .before .before .before .size-at .ensures)
     (c .before .before .before .before .before .before .before .if1 .taken)
     (out .ensures .0) (out .ensures .1 .0) (out .ensures .1 .1)
 
@@ -48,8 +53,11 @@ cast-put-header c = search needs
 put-header-requires : tie.Need-put-header-requires
 put-header-requires c κs = search needs
 
-paint-slots-requires : tie.Need-paint-slots-requires
-paint-slots-requires c κs = search needs
+cast-paint : tie.Need-cast-paint
+cast-paint c = search needs
+
+paint-requires : tie.Need-paint-requires
+paint-requires c κs = search needs
 
 hand-out-requires-2 : tie.Need-hand-out-requires-2
 hand-out-requires-2 c κs = search needs
@@ -62,19 +70,23 @@ same-length-4 c = search needs
 
 returns-2 : tie.Need-returns-2
 returns-2 c = let s = c .before .before .before .before .before .before .before .before .before .before .before .before .before .before .before .before .before .before .before .before .args in
+    let p = c .before .before .before .before .before .before .before .before .before .before .before .before .before .before .before .before .before .before .before .before .pre in
+    let size = c .before .before .before .before .before .before .before .before .before .before .before .before .before .before .before .before .size-at in
+    let fits : s .want + 16 ≤ numberAt 4 (s .memory .now) (s .header) = omega (arith, size .ensures, c .before .before .before .before .before .before .before .before .before .before .before .before .before .before .before .if1 .left) in
     let out = c .before .before .before .before .hand-out2 in
     taken-cut (s .memory .now) (s .table .now) (s .header) (s .want) (s .mark) (s .color) _ _ _ _ _ _
-    (c .before .before .before .before .before .before .before .before .before .before .before .before .before .before .before .before .number-at .ensures)
+    (size .ensures)
     (c .before .before .before .before .before .before .before .before .before .before .before .before .before .before .before .if1 .left)
     (c .before .before .before .before .before .before .before .before .before .before .before .before .before .put-header .ensures)
-    (c .before .before .before .before .before .before .before .before .before .paint-slots .ensures)
+    (c .before .before .before .before .before .before .before .before .before .paint .ensures
+    ∙ painted-exact (s .table .now) (s .header + 8 + s .want) 8 1 (omega (arith, p .table, p .ends, fits)))
     (out .ensures .0) (out .ensures .1 .0) (out .ensures .1 .1)
 
 pub take-block-spec : {M : Type 1} → statement M
 take-block-spec =
     tie.close
     (tie.spec
-    number-at-requires
+    size-at-requires
     cast-size
     add-if1
     hand-out-requires
@@ -87,7 +99,8 @@ take-block-spec =
     sub-left-2
     cast-put-header
     put-header-requires
-    paint-slots-requires
+    cast-paint
+    paint-requires
     hand-out-requires-2
     same-length-3
     same-length-4

@@ -5,7 +5,7 @@ use native.Mathlib.Omega.{arith}
 use borrow.Author.Needs.{needs}
 use denote.Ref.{now}
 use lib.ListN.{length}
-use Rattle.heap.specs.Memory.{memorySize, tableSize}
+use Rattle.memory.specs.Memory.{memorySize, tableSize}
 use Rattle.machine.specs.declared.Turn.{Turn}
 use Rattle.files.specs.declared.Line.{Line}
 use Rattle.machine.specs.declared.Run.{Run}
