@@ -29,7 +29,7 @@ fn low(value: u32) -> u8
     (value % 256) as u8
 }
 
-// The four bytes from `at` on, as a number.
+// The four bytes from `at` on, as a number. Written flat, so that the compiler reads them as one.
 fn four_at(memory: &[u8], at: usize) -> u32
     requires { ⌜ at + 4 ≤ length (now memory) ⌝ }
     ensures { λ r. ⌜ r ≡ numberAt 4 (now (memory .entry)) at ⌝ }
@@ -38,7 +38,7 @@ fn four_at(memory: &[u8], at: usize) -> u32
     let second = wide(memory[at + 1]);
     let third = wide(memory[at + 2]);
     let fourth = wide(memory[at + 3]);
-    first + 256 * (second + 256 * (third + 256 * fourth))
+    first + 256 * second + 65536 * third + 16777216 * fourth
 }
 
 // The number in the four bytes from an address on; 0 where one of them lies outside.
