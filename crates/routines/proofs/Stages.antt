@@ -4,7 +4,7 @@ use mathlib.Core.Bool.{Bool, true, false}
 use Rattle.files.specs.Program.{Program}
 use Rattle.files.specs.Reading.{Reading, whole, refusal, onWhole}
 use Rattle.coloring.specs.Colored.{fewClasses}
-use Rattle.routines.specs.Accepted.{globalsFit, laidOut, accepted}
+use Rattle.routines.specs.Accepted.{globalsFit, laidOut, accepted, Accepted}
 
 module _ (p : Program) where
   by-classes : {b : Bool} → fewClasses p ≡ b → accepted (whole p) ≡ onWhole laidOut (elim b [ true ↦ whole p | false ↦ Reading.refused (refusal 8 0) ])
@@ -21,3 +21,7 @@ module _ (p : Program) where
 
   pub admits : fewClasses p ≡ true → globalsFit p ≡ true → accepted (whole p) ≡ whole p
   admits c f = by-classes c ∙ by-globals f
+
+  -- a routine that is called accepted is the answer
+  pub accepted-stays : Accepted p → accepted (whole p) ≡ whole p
+  accepted-stays a = admits (a .classes) (a .fitting)

@@ -14,7 +14,7 @@ use denote.Enum.Declared.{tagOf}
 use Rattle.opcodes.specs.declared.Instr.{Instr}
 use Rattle.opcodes.specs.Table.{makers, make, partsOf}
 use Rattle.opcodes.proofs.Instr.{the-type}
-use Rattle.opcodes.proofs.Parting.{make-parts}
+use Rattle.instructions.proofs.Parting.{make-parts}
 
 module _ {A : Type 0} where
   -- what a function gives for n numbers
