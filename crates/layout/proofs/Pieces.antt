@@ -14,7 +14,7 @@ use Rattle.files.proofs.Filled.{filled-more, getD-filled, getD-filled-map}
 use Rattle.files.proofs.Tabulated.{length-tabulate, getD-tabulate-zero, take-tabulate, tabulate-last}
 use Rattle.layout.specs.declared.Layout.{Layout}
 use Rattle.layout.specs.Layout.{Piece, total, safeSpace, unsafeSpace, unsafeFrom, startOf, piecesOf, pieceOf}
-use Rattle.layout.specs.Arrays.{placeFor, layoutOf, piecesIn, pieceAt, counted}
+use Rattle.layout.specs.Arrays.{nextPlace, layoutOf, piecesIn, pieceAt, counted}
 
 -- ---- sums
 
@@ -41,32 +41,32 @@ module _ (f : ℕ → Piece) (objects : ℕ) where
   -- the next place for a safe and for an unsafe object, and the starts so far, before object g
   pub record Placed (starts : List ℕ) (safeAt unsafeAt g : ℕ) : Type 0 where
     pub count : g ≤ objects
-    pub safeNext : safeAt ≡ 8 + total safeSpace (tabulate f 0 g)
-    pub unsafeNext : unsafeAt ≡ unsafeFrom pieces + total unsafeSpace (tabulate f 0 g)
+    pub safeNext : safeAt ≡ 8 + total (safeSpace 0) (tabulate f 0 g)
+    pub unsafeNext : unsafeAt ≡ unsafeFrom 0 8 pieces + total (unsafeSpace 0) (tabulate f 0 g)
     pub filling : starts ≡ filled 400 0 (tabulate (startOf pieces) 0 g)
 
   start-is : (g : ℕ) → g < objects
-      → startOf pieces g ≡ placeFor (f g .safe) (8 + total safeSpace (tabulate f 0 g))
-      (unsafeFrom pieces + total unsafeSpace (tabulate f 0 g))
+      → startOf pieces g ≡ nextPlace (f g .safe) (8 + total (safeSpace 0) (tabulate f 0 g))
+      (unsafeFrom 0 8 pieces + total (unsafeSpace 0) (tabulate f 0 g))
   unfolding startOf
   start-is g h =
       let piece : getD pieces g (record { kind = 0; size = 0; safe = true }) ≡ f g = getD-tabulate-zero f objects g _ h in
       let before : take g pieces ≡ tabulate f 0 g = take-tabulate f 0 objects g (omega arith) in
-      ap₂ (λ p os. placeFor (p .safe) (8 + total safeSpace os) (unsafeFrom pieces + total unsafeSpace os)) piece before
+      ap₂ (λ p os. nextPlace (p .safe) (8 + total (safeSpace 0) os) (unsafeFrom 0 8 pieces + total (unsafeSpace 0) os)) piece before
 
-  pub placed-none : (starts : List ℕ) (from : ℕ) → starts ≡ filled 400 0 [] → from ≡ unsafeFrom pieces → Placed starts 8 from 0
+  pub placed-none : (starts : List ℕ) (from : ℕ) → starts ≡ filled 400 0 [] → from ≡ unsafeFrom 0 8 pieces → Placed starts 8 from 0
   unfolding tabulate total
   placed-none starts from e₁ e₂ = record { count = omega arith; safeNext = refl; unsafeNext = omega arith; filling = e₁ }
 
   pub placed-more : {starts : List ℕ} {safeAt unsafeAt g : ℕ} → Placed starts safeAt unsafeAt g → g < objects → objects ≤ 400
-      → (start safe unsafe : ℕ) → start ≡ placeFor (f g .safe) safeAt unsafeAt → safe ≡ safeSpace (f g) → unsafe ≡ unsafeSpace (f g)
+      → (start safe unsafe : ℕ) → start ≡ nextPlace (f g .safe) safeAt unsafeAt → safe ≡ safeSpace 0 (f g) → unsafe ≡ unsafeSpace 0 (f g)
       → Placed (set starts g start) (safeAt + safe) (unsafeAt + unsafe) (g + 1)
   placed-more {starts} {safeAt} {unsafeAt} {g} placed h most start safe unsafe e₀ e₁ e₂ =
-      let total₁ = sum-more f safeSpace g (total safeSpace (tabulate f 0 g)) safe refl e₁ in
-      let total₂ = sum-more f unsafeSpace g (total unsafeSpace (tabulate f 0 g)) unsafe refl e₂ in
+      let total₁ = sum-more f (safeSpace 0) g (total (safeSpace 0) (tabulate f 0 g)) safe refl e₁ in
+      let total₂ = sum-more f (unsafeSpace 0) g (total (unsafeSpace 0) (tabulate f 0 g)) unsafe refl e₂ in
       let here : 0 + g ≡ g = omega arith in
       let is : start ≡ startOf pieces (0 + g) =
-      e₀ ∙ ap₂ (placeFor (f g .safe)) (placed .safeNext) (placed .unsafeNext) ∙ sym (start-is g h) ∙ ap (startOf pieces) (sym here) in
+      e₀ ∙ ap₂ (nextPlace (f g .safe)) (placed .safeNext) (placed .unsafeNext) ∙ sym (start-is g h) ∙ ap (startOf pieces) (sym here) in
       let long : length (tabulate (startOf pieces) 0 g) ≡ g = length-tabulate (startOf pieces) 0 g in
       record {
         count = omega arith;
@@ -86,7 +86,7 @@ module _ (f : ℕ → Piece) (objects : ℕ) where
       let long : g ≡ length pieces = all ∙ sym (length-tabulate f 0 objects) in
       ap₂ (λ x y. record { starts = x; end = y })
       (placed .filling ∙ ap (λ n. filled 400 0 (tabulate (startOf pieces) 0 n)) long)
-      (placed .unsafeNext ∙ ap (λ n. unsafeFrom pieces + total unsafeSpace (tabulate f 0 n)) all)
+      (placed .unsafeNext ∙ ap (λ n. unsafeFrom 0 8 pieces + total (unsafeSpace 0) (tabulate f 0 n)) all)
 
 -- ---- for callers
 

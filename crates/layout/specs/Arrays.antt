@@ -21,8 +21,8 @@ unfoldable pub piecesIn : (kinds sizes colors : List ℕ) → (objects : ℕ) �
 piecesIn kinds sizes colors objects = tabulate (pieceAt kinds sizes colors) 0 (counted objects)
 
 -- of the next place for a safe and for an unsafe object, the one that is meant
-abbrev pub placeFor : (safe : Bool) → (safeAt unsafeAt : ℕ) → ℕ
-placeFor safe safeAt unsafeAt = elim safe [ true ↦ safeAt | false ↦ unsafeAt ]
+abbrev pub nextPlace : (safe : Bool) → (safeAt unsafeAt : ℕ) → ℕ
+nextPlace safe safeAt unsafeAt = elim safe [ true ↦ safeAt | false ↦ unsafeAt ]
 
 -- the start of each object, then 0, and where the last guard ends
 abbrev pub layoutOf : List Piece → Layout

@@ -8,7 +8,7 @@ ghost use lib.Dec.{eqb};
 ghost use Rattle.opcodes.specs.View.{extent};
 ghost use Rattle.files.specs.Held.{tabulate};
 ghost use Rattle.layout.specs.Layout.{safeSpace, unsafeSpace, total, unsafeFrom};
-ghost use Rattle.layout.specs.Arrays.{pieceAt, piecesIn, layoutOf, placeFor, counted};
+ghost use Rattle.layout.specs.Arrays.{pieceAt, piecesIn, layoutOf, nextPlace, counted};
 
 // The start of each object, 0 for those that are not there, and where the last guard ends.
 pub struct Layout {
@@ -25,7 +25,7 @@ fn extent_of(size: u16) -> u32
 
 // The bytes that a safe global takes.
 fn safe_space(kind: u8, size: u16, color: u8) -> u32
-    ensures { λ r. ⌜ (r ≡ safeSpace (record { kind = kind; size = size; safe = eqb color 0 })) × (r ≤ 65536) ⌝ }
+    ensures { λ r. ⌜ (r ≡ safeSpace 0 (record { kind = kind; size = size; safe = eqb color 0 })) × (r ≤ 65536) ⌝ }
 {
     if kind != 0 {
         return 0;
@@ -38,7 +38,7 @@ fn safe_space(kind: u8, size: u16, color: u8) -> u32
 
 // The bytes that an unsafe global takes, with its guard.
 fn unsafe_space(kind: u8, size: u16, color: u8) -> u32
-    ensures { λ r. ⌜ (r ≡ unsafeSpace (record { kind = kind; size = size; safe = eqb color 0 })) × (r ≤ 65544) ⌝ }
+    ensures { λ r. ⌜ (r ≡ unsafeSpace 0 (record { kind = kind; size = size; safe = eqb color 0 })) × (r ≤ 65544) ⌝ }
 {
     if kind != 0 {
         return 0;
@@ -57,7 +57,7 @@ fn safe_total<'a>(
     objects: usize,
 ) -> u32
     requires { ⌜ objects ≤ 400 ⌝ }
-    ensures { λ r. ⌜ r ≡ total safeSpace (tabulate (pieceAt (now (kinds .entry)) (now (sizes .entry)) (now (colors .entry))) 0 objects) ⌝ }
+    ensures { λ r. ⌜ r ≡ total (safeSpace 0) (tabulate (pieceAt (now (kinds .entry)) (now (sizes .entry)) (now (colors .entry))) 0 objects) ⌝ }
     ensures { λ r. ⌜ r ≤ 26214400 ⌝ }
 {
     let mut sum = 0;
@@ -71,7 +71,7 @@ fn safe_total<'a>(
 
 // Where the next object of this color would stand.
 fn start_of(color: u8, safe_at: u32, unsafe_at: u32) -> u32
-    ensures { λ r. ⌜ r ≡ placeFor (eqb color 0) «safe_at» «unsafe_at» ⌝ }
+    ensures { λ r. ⌜ r ≡ nextPlace (eqb color 0) «safe_at» «unsafe_at» ⌝ }
 {
     if color == 0 { safe_at } else { unsafe_at }
 }
@@ -85,7 +85,7 @@ fn place_all<'a>(
     from: u32,
 ) -> Layout
     requires { ⌜ objects ≤ 400 ⌝ }
-    requires { ⌜ from ≡ unsafeFrom (tabulate (pieceAt (now kinds) (now sizes) (now colors)) 0 objects) ⌝ }
+    requires { ⌜ from ≡ unsafeFrom 0 8 (tabulate (pieceAt (now kinds) (now sizes) (now colors)) 0 objects) ⌝ }
     requires { ⌜ from ≤ 26214416 ⌝ }
     ensures { λ r. ⌜ r ≡ layoutOf (tabulate (pieceAt (now (kinds .entry)) (now (sizes .entry)) (now (colors .entry))) 0 objects) ⌝ }
 {

@@ -7,10 +7,10 @@
 use Prim.Native.Nat.{ℕ, zero, suc, _+_, _*_, _<_, _≤_}
 use mathlib.Core.Path.{_≡_, refl, sym, _∙_, ap, subst}
 use mathlib.Core.Bool.{Bool, true, false}
-use mathlib.Core.List.{List, [], _∷_, map}
+use mathlib.Core.List.{List, map}
 use native.Mathlib.Omega.{arith}
 use native.Mathlib.Nat.{not-suc-le-zero}
-use lib.ListN.{length, getD, take, List·getD-eq-default}
+use lib.ListN.{length, getD, List·getD-eq-default}
 use lib.Dec.{ltb}
 use borrow.Author.Tests.{leb-true, ltb-true, ltb-false, eq-eqb, ne-eqb, le-leb, lt-leb}
 use Rattle.numbers.specs.declared.Refusal.{Refusal}
@@ -27,9 +27,10 @@ use Rattle.files.proofs.Tabulated.{length-tabulate, getD-tabulate-zero}
 use Rattle.files.proofs.Filled.{getD-filled, getD-filled-map, lines-filled}
 use Rattle.files.proofs.RoundTrip.{Good, good-read, whole-not-refused}
 use Rattle.layout.specs.declared.Layout.{Layout}
-use Rattle.layout.specs.Layout.{Piece, piecesOf, startOf, endOf, fits, total, safeSpace, unsafeSpace, unsafeFrom}
+use Rattle.layout.specs.Layout.{Piece, piecesOf, startOf, endOf, fits}
 use Rattle.layout.specs.Arrays.{layoutOf}
 use Rattle.layout.proofs.Pieces.{pieces-held}
+use Rattle.layout.proofs.Places.{start-low}
 use Rattle.memory.specs.Memory.{memorySize, tableSize}
 use Rattle.heap.specs.Heap.{paintMade, paintFreed, emptyHeap}
 use Rattle.heap.specs.Lent.{started}
@@ -47,20 +48,6 @@ use Rattle.machine.proofs.Agreeing.{same-runs, agrees}
 use Rattle.machine.proofs.Temporaries.{narrow-code}
 
 -- ---- starts are low
-
-total-take : (space : Piece → ℕ) (os : List Piece) (g : ℕ) → total space (take g os) ≤ total space os
-unfolding total
-total-take space os zero = omega arith
-total-take space [] (suc g) = omega arith
-total-take space (o ∷ os) (suc g) = omega (arith, total-take space os g)
-
-start-low : (os : List Piece) (g : ℕ) → startOf os g ≤ endOf os
-unfolding startOf
-start-low os g = go (getD os g (record { kind = 0; size = 0; safe = true }) .safe)
-  where
-    go : (b : Bool) → elim b [ true ↦ 8 + total safeSpace (take g os) | false ↦ unsafeFrom os + total unsafeSpace (take g os) ] ≤ endOf os
-    go true = omega (arith, total-take safeSpace os g)
-    go false = omega (arith, total-take unsafeSpace os g)
 
 pub low-starts : (os : List Piece) → endOf os ≤ 28672 → Low (layoutOf os .starts)
 low-starts os fit g = go (ltb g (length os)) refl (getD-filled 400 0 (tabulate (startOf os) 0 (length os)) g)

@@ -11,7 +11,7 @@ use Rattle.layout.proofs.safe_total.Tie as tie
 
 abbrev Inv-loop : tie.InvT-loop
 Inv-loop kinds sizes colors objects sum₀ g₀ sum g = (g ≤ objects) × (sum ≤ 65536 * g) ×
-    (sum ≡ total safeSpace (tabulate (pieceAt kinds sizes colors) 0 g))
+    (sum ≡ total (safeSpace 0) (tabulate (pieceAt kinds sizes colors) 0 g))
 
 abbrev μ-loop : tie.MeasureT-loop
 μ-loop kinds sizes colors objects sum₀ g₀ sum g = objects - g
@@ -48,13 +48,13 @@ loop-again : tie.Need-loop-again Inv-loop μ-loop
 loop-again c = let w = c .before .before .before .before .before .loop in (
   omega (arith, c .before .before .before .before .loop-test .taken),
   omega arith,
-  sum-more _ safeSpace (w .g) (w .sum) (c .safe-space .result) (w .inv .2) (c .safe-space .ensures .0),
+  sum-more _ (safeSpace 0) (w .g) (w .sum) (c .safe-space .result) (w .inv .2) (c .safe-space .ensures .0),
 )
 
 returns : tie.Need-returns Inv-loop μ-loop
 returns c = let s = c .before .before .args in
     let e : c .before .loop .g ≡ s .objects = omega arith in (
-      c .before .loop .inv .2 ∙ ap (λ n. total safeSpace
+      c .before .loop .inv .2 ∙ ap (λ n. total (safeSpace 0)
           (tabulate (pieceAt (s .kinds .now) (s .sizes .now) (s .colors .now)) 0 n)) e,
       omega (arith, c .before .before .pre),
     )
