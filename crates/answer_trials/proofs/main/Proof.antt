@@ -1,4 +1,4 @@
--- `answer_trials::main` is safe and ends. The measure is the turns left. Assumes nothing.
+-- `answer_trials::main` is safe and ends. The measure is the turns left.
 use borrow.Author.Needs.{needs}
 use Rattle.answer_trials.proofs.main.Statement.{statement}
 use Rattle.answer_trials.proofs.main.Tie as tie

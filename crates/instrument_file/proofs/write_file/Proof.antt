@@ -1,5 +1,5 @@
 -- `instrument_file::write_file` is safe: the test has the length within the room, so that the part that is written has
--- that many bytes. Assumes nothing.
+-- that many bytes.
 use borrow.Author.Needs.{needs}
 use native.Mathlib.Omega.{arith}
 use lib.ListN.{length-take}

@@ -1,5 +1,5 @@
 -- `run_instrumented::run_in_room` is safe: the test has the size within the array, so that the part that is lent has
--- that many numbers. Assumes nothing.
+-- that many numbers.
 use borrow.Author.Needs.{needs}
 use native.Mathlib.Omega.{arith}
 use lib.ListN.{length-take}

@@ -1,5 +1,5 @@
 -- `run_instrumented::run_with` is safe: the test has the count within the room, so that the part that is lent has that
--- many numbers. Assumes nothing.
+-- many numbers.
 use borrow.Author.Needs.{needs}
 use native.Mathlib.Omega.{arith}
 use lib.ListN.{length-take}

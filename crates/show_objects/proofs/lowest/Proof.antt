@@ -1,4 +1,4 @@
--- `show_objects::lowest` is safe and ends. The measure is what is left of the colors. Assumes nothing.
+-- `show_objects::lowest` is safe and ends. The measure is what is left of the colors.
 use borrow.Author.Needs.{needs}
 use Prim.Native.Nat.{_-_, _≤_}
 use Rattle.show_objects.proofs.lowest.Statement.{statement}

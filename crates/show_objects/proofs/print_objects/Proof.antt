@@ -1,4 +1,4 @@
--- `show_objects::print_objects` is safe and ends. The measure is what is left of the objects that there can be. Assumes nothing.
+-- `show_objects::print_objects` is safe and ends. The measure is what is left of the objects that there can be.
 use borrow.Author.Needs.{needs}
 use Prim.Native.Nat.{_-_}
 use Rattle.show_objects.proofs.print_objects.Statement.{statement}

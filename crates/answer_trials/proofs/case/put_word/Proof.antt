@@ -1,4 +1,4 @@
--- `answer_trials::case::put_word` is safe: a store keeps the length, and the test has all four bytes within it. Assumes nothing.
+-- `answer_trials::case::put_word` is safe: a store keeps the length, and the test has all four bytes within it.
 use borrow.Author.Needs.{needs}
 use native.Mathlib.Omega.{arith}
 use lib.ListN.{length-set}

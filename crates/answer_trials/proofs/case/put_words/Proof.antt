@@ -1,4 +1,4 @@
--- `answer_trials::case::put_words` is safe and ends. The measure is the words left. Assumes nothing.
+-- `answer_trials::case::put_words` is safe and ends. The measure is the words left.
 use borrow.Author.Needs.{needs}
 use Prim.Native.Nat.{_-_}
 use lib.ListN.{length}

@@ -1,4 +1,4 @@
--- `answer_trials::case::take_words` is safe and ends: the numbers keep their length. The measure is what is left of it. Assumes nothing.
+-- `answer_trials::case::take_words` is safe and ends: the numbers keep their length. The measure is what is left of it.
 use borrow.Author.Needs.{needs}
 use Prim.Native.Nat.{_-_}
 use lib.ListN.{length}

@@ -1,4 +1,4 @@
--- `answer_trials::digest::digest_bytes` is safe and ends. The measure is the bytes left. Assumes nothing.
+-- `answer_trials::digest::digest_bytes` is safe and ends. The measure is the bytes left.
 use borrow.Author.Needs.{needs}
 use Prim.Native.Nat.{_-_}
 use lib.ListN.{length}

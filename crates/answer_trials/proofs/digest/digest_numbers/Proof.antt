@@ -1,4 +1,4 @@
--- `answer_trials::digest::digest_numbers` is safe and ends. The measure is the numbers left. Assumes nothing.
+-- `answer_trials::digest::digest_numbers` is safe and ends. The measure is the numbers left.
 use borrow.Author.Needs.{needs}
 use Prim.Native.Nat.{_-_}
 use lib.ListN.{length}

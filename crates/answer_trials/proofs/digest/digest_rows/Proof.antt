@@ -1,4 +1,4 @@
--- `answer_trials::digest::digest_rows` is safe and ends. The measure is the rows left. Assumes nothing.
+-- `answer_trials::digest::digest_rows` is safe and ends. The measure is the rows left.
 use borrow.Author.Needs.{needs}
 use Prim.Native.Nat.{_-_}
 use Rattle.answer_trials.proofs.digest.digest_rows.Statement.{statement}

@@ -1,4 +1,4 @@
--- `answer_trials::lent::numbers_within` counts numbers at the front of the array: so many are taken from it. Assumes nothing.
+-- `answer_trials::lent::numbers_within` counts numbers at the front of the array: so many are taken from it.
 use native.Mathlib.Omega.{arith}
 use lib.ListN.{length-take}
 use Rattle.answer_trials.proofs.lent.numbers_within.Statement.{statement}

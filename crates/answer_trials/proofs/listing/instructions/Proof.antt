@@ -1,5 +1,5 @@
 -- `answer_trials::listing::instructions` is safe and ends. The measure is what is left of the instructions that there
--- can be. Assumes nothing.
+-- can be.
 use borrow.Author.Needs.{needs}
 use Prim.Native.Nat.{_-_}
 use Rattle.answer_trials.proofs.listing.instructions.Statement.{statement}

@@ -1,4 +1,4 @@
--- `answer_trials::listing::objects` is safe and ends. The measure is what is left of the arrays. Assumes nothing.
+-- `answer_trials::listing::objects` is safe and ends. The measure is what is left of the arrays.
 use borrow.Author.Needs.{needs}
 use Prim.Native.Nat.{_-_}
 use Rattle.answer_trials.proofs.listing.objects.Statement.{statement}

@@ -1,4 +1,4 @@
--- `answer_trials::listing::set` is safe and ends. The measure is what is left of the members. Assumes nothing.
+-- `answer_trials::listing::set` is safe and ends. The measure is what is left of the members.
 use borrow.Author.Needs.{needs}
 use Prim.Native.Nat.{_-_}
 use Rattle.answer_trials.proofs.listing.set.Statement.{statement}

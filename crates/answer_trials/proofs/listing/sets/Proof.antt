@@ -1,4 +1,4 @@
--- `answer_trials::listing::sets` is safe and ends. The measure is what is left of the sets that there can be. Assumes nothing.
+-- `answer_trials::listing::sets` is safe and ends. The measure is what is left of the sets that there can be.
 use borrow.Author.Needs.{needs}
 use Prim.Native.Nat.{_-_}
 use Rattle.answer_trials.proofs.listing.sets.Statement.{statement}

@@ -1,4 +1,4 @@
--- `run_instrumented::inputs::number_in` is safe and ends. The measure is what is left of the text. Assumes nothing.
+-- `run_instrumented::inputs::number_in` is safe and ends. The measure is what is left of the text.
 use borrow.Author.Needs.{needs}
 use Prim.Native.Nat.{_-_}
 use lib.ListN.{length}

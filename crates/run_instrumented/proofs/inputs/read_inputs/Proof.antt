@@ -1,4 +1,4 @@
--- `run_instrumented::inputs::read_inputs` is safe and ends: the room keeps its length. The measure is the arguments left. Assumes nothing.
+-- `run_instrumented::inputs::read_inputs` is safe and ends: the room keeps its length. The measure is the arguments left.
 use borrow.Author.Needs.{needs}
 use Prim.Native.Nat.{_-_, _≤_}
 use lib.ListN.{length}

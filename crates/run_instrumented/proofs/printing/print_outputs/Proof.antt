@@ -1,4 +1,4 @@
--- `run_instrumented::printing::print_outputs` is safe and ends. The measure is what is left of the room. Assumes nothing.
+-- `run_instrumented::printing::print_outputs` is safe and ends. The measure is what is left of the room.
 use borrow.Author.Needs.{needs}
 use Prim.Native.Nat.{_-_}
 use lib.ListN.{length}
