@@ -25,7 +25,7 @@ use Rattle.safety.specs.declared.Nature.the-variants.{Listed}
 use Rattle.coloring.specs.Class.{holds, Neighbours, Chain, last, link}
 use Rattle.safety.specs.Unsafe.{unsafeSets}
 use Rattle.coloring.specs.Colored.{tinted, withColors, colorIn, classCount, colored}
-use Rattle.coloring.specs.Labels.{leaders, painted, marksIn, usedIn, labelsIn, heldWith, painting}
+use Rattle.coloring.specs.Labels.{leaders, numberedFrom, marksIn, usedIn, labelsIn, heldWith, painting}
 use Rattle.files.proofs.Tests.{no-test}
 use Rattle.files.proofs.Filled.{length-filled, getD-filled}
 use Rattle.coloring.proofs.Members.{holds-here, holds-nil, holds-cases}
@@ -145,7 +145,7 @@ module _ (p : Program) (good : Good 1 p) where
   counted =
       leaders-classes full labels labels-sound labels-chains (λ x u. object-most x (unsafe-below p good x u)) (length (p .objects)) (good .objects-most)
 
-  colors-done : Painted full labels labels-sound labels-chains (λ x u. object-most x (unsafe-below p good x u)) (0 + length (p .objects)) (replicate 400 0) (painted (length (p .objects)) labels 0 2 (replicate 400 0))
+  colors-done : Painted full labels labels-sound labels-chains (λ x u. object-most x (unsafe-below p good x u)) (0 + length (p .objects)) (replicate 400 0) (numberedFrom (length (p .objects)) labels 0 2 (replicate 400 0))
   unfolding leaders
   colors-done =
       paints full labels labels-sound labels-chains (λ x u. object-most x (unsafe-below p good x u)) (length (p .objects)) 0 (replicate 400 0) (omega (arith, good .objects-most)) (length-replicate {A = ℕ} 400 0)
@@ -157,11 +157,11 @@ module _ (p : Program) (good : Good 1 p) where
   tints-length : length tints ≡ length (p .objects)
   tints-length = length-map (tinted (colorIn p) 0 (p .objects)) (λ o. o .color) ∙ tinted-length (colorIn p) 0 (p .objects)
 
-  colors-are : painted (length (p .objects)) labels 0 2 (replicate 400 0) ≡ filled 400 0 tints
+  colors-are : numberedFrom (length (p .objects)) labels 0 2 (replicate 400 0) ≡ filled 400 0 tints
   colors-are =
-      let d : Painted full labels labels-sound labels-chains (λ x u. object-most x (unsafe-below p good x u)) (0 + length (p .objects)) (replicate 400 0) (painted (length (p .objects)) labels 0 2 (replicate 400 0)) = colors-done in
+      let d : Painted full labels labels-sound labels-chains (λ x u. object-most x (unsafe-below p good x u)) (0 + length (p .objects)) (replicate 400 0) (numberedFrom (length (p .objects)) labels 0 2 (replicate 400 0)) = colors-done in
       let few : length tints ≤ 400 = omega (arith, tints-length, good .objects-most) in
-      ext-getD 0 (painted (length (p .objects)) labels 0 2 (replicate 400 0)) (filled 400 0 tints) (d .wide ∙ sym (length-filled 400 0 tints few))
+      ext-getD 0 (numberedFrom (length (p .objects)) labels 0 2 (replicate 400 0)) (filled 400 0 tints) (d .wide ∙ sym (length-filled 400 0 tints few))
       (λ i h.
       ⊎-elim
       (λ b.

@@ -15,7 +15,7 @@ use lib.Seq.{getD-set-same, getD-set-other}
 use borrow.Author.Tests.{ne-eqb}
 use Rattle.coloring.specs.Class.{unsafeObject, Chain}
 use Rattle.coloring.specs.Color.{lowest, first, classesBelow, colorOf}
-use Rattle.coloring.specs.Labels.{leads, leaders, tint, painted}
+use Rattle.coloring.specs.Labels.{leads, leaders, tint, numberedFrom}
 use Rattle.files.proofs.Tests.{no-test}
 use Rattle.coloring.proofs.Chains.{class-is-chain, class-self, class-unsafe}
 use Rattle.coloring.proofs.Colors.{lowest-upto, lowest-in, lowest-least, first-one, color-safe, color-unsafe, color-together}
@@ -111,8 +111,8 @@ module _ (sets : List (List ℕ)) (l : List ℕ) (s : Sound sets l) (complete : 
     pub rest : (y : ℕ) → n ≤ y → getD m y 0 ≡ getD colors y 0
 
   pub paints : (n x : ℕ) (colors : List ℕ) → x + n ≤ 400 → length colors ≡ 400 → ((y : ℕ) → y < x → getD colors y 0 ≡ colorOf sets y)
-      → Painted (x + n) colors (painted n l x (2 + leaders l x) colors)
-  unfolding painted leaders
+      → Painted (x + n) colors (numberedFrom n l x (2 + leaders l x) colors)
+  unfolding numberedFrom leaders
   paints zero x colors h w done =
       let z : x + 0 ≡ x = omega arith in
       record { wide = w; done = λ y b. done y (omega (arith, b)); rest = λ y b. refl }
@@ -126,7 +126,7 @@ module _ (sets : List (List ℕ)) (l : List ℕ) (s : Sound sets l) (complete : 
       (λ m. getD-set-other colors x y next 0 m ∙ done y (omega (arith, b, m)))
       (equal-or y x)
       in
-      let r : Painted (x + 1 + n) (set colors x next) (painted n l (x + 1) (2 + leaders l (x + 1)) (set colors x next)) =
+      let r : Painted (x + 1 + n) (set colors x next) (numberedFrom n l (x + 1) (2 + leaders l (x + 1)) (set colors x next)) =
       paints n (x + 1) (set colors x next) (omega arith) (length-set colors x next ∙ w) done′
       in
       let e : 2 + leaders l (x + 1) ≡ 2 + leaders l x + leads l x = let z : x + 1 ≡ suc x = add-one x in rw z (omega arith) in

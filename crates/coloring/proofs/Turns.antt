@@ -13,7 +13,7 @@ use Rattle.files.specs.declared.Line.{Line}
 use Rattle.files.specs.declared.Loaded.{Loaded}
 use Rattle.files.specs.Reading.{Reading, refusal}
 use Rattle.files.specs.Held.{held}
-use Rattle.coloring.specs.Labels.{touched, renamed, relabelled, united, spanJoined, setJoined, setsJoined, ownMarked, useMarked, natureAt, ownsMarked, usesMarked, lead, leads, leaders, tintBy, tint, painted, marksIn, usedIn, labelsIn, heldWith, painting}
+use Rattle.coloring.specs.Labels.{touched, renamed, relabelled, united, spanJoined, setJoined, setsJoined, ownMarked, useMarked, natureAt, ownsMarked, usesMarked, lead, leads, leaders, tintBy, tint, numberedFrom, marksIn, usedIn, labelsIn, heldWith, painting}
 
 -- ---- one step
 
@@ -106,14 +106,14 @@ pub leaders-turn : (l : List ℕ) (x : ℕ) → leaders l (x + 1) ≡ leaders l 
 unfolding leaders
 leaders-turn l x = rw (add-one x)
 
-pub painted-turn : (n x next : ℕ) (l colors : List ℕ) → x < n
-    → painted (n - x) l x next colors ≡ painted (n - (x + 1)) l (x + 1) (next + leads l x) (set colors x (tint l colors next x))
-unfolding painted
-painted-turn n x next l colors h = rw (left-one n x h)
+pub numbered-turn : (n x next : ℕ) (l colors : List ℕ) → x < n
+    → numberedFrom (n - x) l x next colors ≡ numberedFrom (n - (x + 1)) l (x + 1) (next + leads l x) (set colors x (tint l colors next x))
+unfolding numberedFrom
+numbered-turn n x next l colors h = rw (left-one n x h)
 
-pub painted-done : (n x next : ℕ) (l colors : List ℕ) → n ≤ x → painted (n - x) l x next colors ≡ colors
-unfolding painted
-painted-done n x next l colors h = rw (left-none n x h)
+pub numbered-done : (n x next : ℕ) (l colors : List ℕ) → n ≤ x → numberedFrom (n - x) l x next colors ≡ colors
+unfolding numberedFrom
+numbered-done n x next l colors h = rw (left-none n x h)
 
 -- ---- numbering
 
@@ -175,9 +175,9 @@ painting-many r labels n e f h =
     rw (lt-ltb 254 (leaders (labelsIn r) (r .objects)) g, painting)
 
 pub painting-few : (r : Loaded) (labels colors : List ℕ) (n : ℕ) → labels ≡ labelsIn r → n ≡ leaders labels (r .objects) → n ≤ 254
-    → colors ≡ painted (r .objects) labels 0 2 (replicate 400 0) → painting r ≡ heldWith colors r
+    → colors ≡ numberedFrom (r .objects) labels 0 2 (replicate 400 0) → painting r ≡ heldWith colors r
 unfolding painting
 painting-few r labels colors n e f h k =
     let g : leaders (labelsIn r) (r .objects) ≤ 254 = rw (← e) (rw (← f) h) in
     rw (le-ltb 254 (leaders (labelsIn r) (r .objects)) g, painting)
-    (ap (λ (t : List ℕ). heldWith t r) (sym (k ∙ ap (λ (t : List ℕ). painted (r .objects) t 0 2 (replicate 400 0)) e)))
+    (ap (λ (t : List ℕ). heldWith t r) (sym (k ∙ ap (λ (t : List ℕ). numberedFrom (r .objects) t 0 2 (replicate 400 0)) e)))

@@ -112,10 +112,10 @@ tintBy label colors next x =
 abbrev pub tint : (labels colors : List ℕ) (next x : ℕ) → ℕ
 tint labels colors next x = tintBy (getD labels x 0) colors next x
 
-unfoldable pub painted : (n : ℕ) → (labels : List ℕ) (x next : ℕ) → (colors : List ℕ) → List ℕ
-painted zero labels x next colors = colors
-painted (suc n) labels x next colors =
-    painted n labels (x + 1) (next + leads labels x) (set colors x (tint labels colors next x))
+unfoldable pub numberedFrom : (n : ℕ) → (labels : List ℕ) (x next : ℕ) → (colors : List ℕ) → List ℕ
+numberedFrom zero labels x next colors = colors
+numberedFrom (suc n) labels x next colors =
+    numberedFrom n labels (x + 1) (next + leads labels x) (set colors x (tint labels colors next x))
 
 -- ---- the whole
 
@@ -137,7 +137,7 @@ abbrev pub labelsIn : Loaded → List ℕ
 labelsIn l = setsJoined (l .sets) (usedIn l) (l .ends) (l .members) 0 0 (marksIn l)
 
 abbrev pub colorsIn : Loaded → List ℕ
-colorsIn l = painted (l .objects) (labelsIn l) 0 2 (replicate 400 0)
+colorsIn l = numberedFrom (l .objects) (labelsIn l) 0 2 (replicate 400 0)
 
 abbrev pub heldWith : List ℕ → Loaded → Loaded
 heldWith colors l =

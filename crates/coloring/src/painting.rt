@@ -2,7 +2,7 @@
 ghost use mathlib.Core.Path.{_≡_};
 ghost use Prim.Native.Nat.{_≤_};
 ghost use lib.ListN.{replicate};
-ghost use Rattle.coloring.specs.Labels.{lead, leaders, tintBy, painted};
+ghost use Rattle.coloring.specs.Labels.{lead, leaders, tintBy, numberedFrom};
 
 // 1 where an object is the lowest of its class.
 fn leader(label: u16, x: usize) -> u16
@@ -41,7 +41,7 @@ fn color_of(colors: &[u8; 400], label: u16, x: usize, next: u16) -> u8
 // The colors of the first `objects` objects, class after class in the order of the lowest objects.
 pub(super) fn colors_of(labels: &[u16; 400], objects: usize) -> [u8; 400]
     requires { ⌜ (objects ≤ 400) × (leaders (now labels) objects ≤ 254) ⌝ }
-    ensures { λ r. ⌜ r ≡ painted objects (now (labels .entry)) 0 2 (replicate 400 0) ⌝ }
+    ensures { λ r. ⌜ r ≡ numberedFrom objects (now (labels .entry)) 0 2 (replicate 400 0) ⌝ }
 {
     let mut colors = [0; 400];
     let mut next = 2;

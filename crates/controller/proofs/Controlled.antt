@@ -23,7 +23,7 @@ use Rattle.routines.specs.Accepted.{accepted, Accepted}
 use Rattle.routines.proofs.Stages.{crowds, overflows, admits}
 use Rattle.instrumenter.specs.Instrumented.{instrumented}
 use Rattle.instrumenter.specs.declared.Instrumented.{Instrumented}
-use Rattle.instrumenter.specs.Answer.{newFile, instrument}
+use Rattle.instrumenter.specs.Answer.{FileAnswer, newFile, instrument}
 use Rattle.instrumenter.specs.Answer as instrumenting
 use Rattle.instrumenter.proofs.Answers.{Because, answered-because}
 use Rattle.instrumenter.proofs.ReadsBack.{new-file-reads, fits-again, wrote}
@@ -66,7 +66,7 @@ module _ (bytes input : List ℕ) (limit : ℕ) (lent : Lent) (exact : exactLeng
       } in
       sym (rw (exact, runFile) (ap (runReading input limit lent) (new-file-reads p accepted) ∙ rw (fits-again p accepted, runReading) ran))
 
-  controls-because : (a : instrumenting.Answer) → Because bytes 32768 a → Controls bytes input limit lent a
+  controls-because : (a : FileAnswer) → Because bytes 32768 a → Controls bytes input limit lent a
   controls-because a (Because.unread r) = answered r refl
   controls-because a (Because.crowded {p} r c) = answered r (crowds p c)
   controls-because a (Because.overfull {p} r c f) = answered r (overflows p c f)
@@ -101,7 +101,7 @@ module _ (bytes input : List ℕ) (limit : ℕ) (lent : Lent) where
       absurd (omega arith)
 
   -- a run of what was written is a run: it is refused for nothing
-  run-told : (out : List ℕ) → instrument bytes 32768 ≡ instrumenting.Answer.file out → exactLengths lent ≡ true → Told (runFile out input limit lent)
+  run-told : (out : List ℕ) → instrument bytes 32768 ≡ FileAnswer.file out → exactLengths lent ≡ true → Told (runFile out input limit lent)
   unfolding runFile
   run-told out e exact =
       let w = wrote bytes 32768 out e in
@@ -111,9 +111,9 @@ module _ (bytes input : List ℕ) (limit : ℕ) (lent : Lent) where
       rw (exact, runFile) (ap (runReading input limit lent) read ∙ rw (fits-again (w .routine) (w .accepted), runReading)) in
       subst Told (sym ran) (Answered.ended (runProgram input limit lent q) (run-listed input limit lent q))
 
-  told : (a : instrumenting.Answer) → instrument bytes 32768 ≡ a → exactLengths lent ≡ true → Controls bytes input limit lent a → Told (control bytes input limit lent)
-  told (instrumenting.Answer.file out) e exact k = subst Told (sym k) (run-told out e exact)
-  told (instrumenting.Answer.refused q) e exact k =
+  told : (a : FileAnswer) → instrument bytes 32768 ≡ a → exactLengths lent ≡ true → Controls bytes input limit lent a → Told (control bytes input limit lent)
+  told (FileAnswer.file out) e exact k = subst Told (sym k) (run-told out e exact)
+  told (FileAnswer.refused q) e exact k =
       subst Told (sym k) (refused-told q (because-refuses bytes 32768 (instrument bytes 32768) (answered-because bytes 32768) q e))
 
 pub control-is-answered : ControlIsAnswered
@@ -155,10 +155,10 @@ module _ (bytes input : List ℕ) (limit : ℕ) (memory table room : List ℕ) w
         → control bytes input limit (of memory table room) ≡ refuse (of memory table room) q
     refused-so q e = go (instrument bytes (length file)) answer e
       where
-        go : (a : instrumenting.Answer) → Controls bytes input limit (of memory table room) a → instrumenting.told a ≡ Instrumented.Refused q
+        go : (a : FileAnswer) → Controls bytes input limit (of memory table room) a → instrumenting.told a ≡ Instrumented.Refused q
             → control bytes input limit (of memory table room) ≡ refuse (of memory table room) q
-        go (instrumenting.Answer.file out) k e = let z : _≡_ {A = ℕ} 0 1 = cc in absurd (omega arith)
-        go (instrumenting.Answer.refused q′) k e = let same : q′ ≡ q = cc in k ∙ ap (refuse (of memory table room)) same
+        go (FileAnswer.file out) k e = let z : _≡_ {A = ℕ} 0 1 = cc in absurd (omega arith)
+        go (FileAnswer.refused q′) k e = let same : q′ ≡ q = cc in k ∙ ap (refuse (of memory table room)) same
 
     -- the instrumenter writes n bytes at the front of the file's room, and the machine runs them
     pub written-so : (n : ℕ) (after : List ℕ) → instrumenting.told (instrument bytes (length file)) ≡ Instrumented.Written n
@@ -166,11 +166,11 @@ module _ (bytes input : List ℕ) (limit : ℕ) (memory table room : List ℕ) w
         → (n ≤ length after) × (runFile (take n after) input limit (of memory table room) ≡ control bytes input limit (of memory table room))
     written-so n after e h = go (instrument bytes (length file)) answer e h
       where
-        go : (a : instrumenting.Answer) → Controls bytes input limit (of memory table room) a → instrumenting.told a ≡ Instrumented.Written n
+        go : (a : FileAnswer) → Controls bytes input limit (of memory table room) a → instrumenting.told a ≡ Instrumented.Written n
             → after ≡ instrumenting.roomHolding file a
             → (n ≤ length after) × (runFile (take n after) input limit (of memory table room) ≡ control bytes input limit (of memory table room))
-        go (instrumenting.Answer.file out) k e h =
+        go (FileAnswer.file out) k e h =
             let size : length out ≡ n = cc in
             let front : take n after ≡ out = ap (take n) h ∙ take-at out (drop (length out) file) n size in
             (rw h (simp length-append (omega arith)), ap (λ (l : List ℕ). runFile l input limit (of memory table room)) front ∙ sym k)
-        go (instrumenting.Answer.refused q) k e h = let z : _≡_ {A = ℕ} 0 1 = cc in absurd (omega arith)
+        go (FileAnswer.refused q) k e h = let z : _≡_ {A = ℕ} 0 1 = cc in absurd (omega arith)

@@ -6,8 +6,7 @@ use mathlib.Core.List.{List, [], _∷_}
 use mathlib.Core.Bool.{true, false}
 use Rattle.numbers.specs.declared.Refusal.{Refusal}
 use Rattle.files.specs.Reading.{refusal}
-use Rattle.instrumenter.specs.Answer as instrumenting
-use Rattle.instrumenter.specs.Answer.{instrument}
+use Rattle.instrumenter.specs.Answer.{FileAnswer, instrument}
 use Rattle.machine.specs.Running.{Lent, refuse, exactLengths, runFile}
 use Rattle.plain.specs.Demands.{NotAccepted, Answered}
 use Rattle.controller.specs.Control.{control}
@@ -26,9 +25,9 @@ ControlIsAnswered = (bytes input : List ℕ) (limit : ℕ) (lent : Lent)
 
 -- demand 3: what the plain rule gives is what the machine gives for what the instrumenter wrote; and what
 -- the instrumenter refuses is refused
-abbrev pub Controls : (bytes input : List ℕ) (limit : ℕ) → Lent → instrumenting.Answer → Type 0
-Controls bytes input limit lent (instrumenting.Answer.file out) = control bytes input limit lent ≡ runFile out input limit lent
-Controls bytes input limit lent (instrumenting.Answer.refused q) = control bytes input limit lent ≡ refuse lent q
+abbrev pub Controls : (bytes input : List ℕ) (limit : ℕ) → Lent → FileAnswer → Type 0
+Controls bytes input limit lent (FileAnswer.file out) = control bytes input limit lent ≡ runFile out input limit lent
+Controls bytes input limit lent (FileAnswer.refused q) = control bytes input limit lent ≡ refuse lent q
 
 abbrev pub ControlsAsInstrumented : Type 0
 ControlsAsInstrumented = (bytes input : List ℕ) (limit : ℕ) (lent : Lent) → exactLengths lent ≡ true

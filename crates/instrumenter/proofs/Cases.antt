@@ -10,7 +10,7 @@ use Rattle.opcodes.specs.declared.Instr.{Instr}
 use Rattle.opcodes.specs.View.{view}
 use Rattle.opcodes.proofs.Instr.{the-type}
 use borrow.Author.Tests.{eq-eqb, ne-eqb}
-use Rattle.instrumenter.specs.Arrays.{checkFor, startIn, firstIn, checkNature, checkIn}
+use Rattle.instrumenter.specs.Arrays.{checkFor, setStart, firstIn, checkNature, checkIn}
 use Rattle.safety.specs.declared.Nature.{Nature}
 use Rattle.safety.specs.Nature.{natureOf, sizesIn}
 use Rattle.safety.proofs.Nature
@@ -32,11 +32,11 @@ copied-whole target = agree-on copied (λ i. i) (moved target) (λ x y z. refl)
 
 -- ---- where a set starts
 
-pub start-first : (ends : List ℕ) (s : ℕ) → s ≡ 0 → startIn ends s ≡ 0
-start-first ends s h = simp (eq-eqb s 0 h, startIn)
+pub start-first : (ends : List ℕ) (s : ℕ) → s ≡ 0 → setStart ends s ≡ 0
+start-first ends s h = simp (eq-eqb s 0 h, setStart)
 
-pub start-later : (ends : List ℕ) (s : ℕ) → (s ≡ 0 → ⊥) → startIn ends s ≡ getD ends (s - 1) 0
-start-later ends s h = simp (ne-eqb s 0 h, startIn)
+pub start-later : (ends : List ℕ) (s : ℕ) → (s ≡ 0 → ⊥) → setStart ends s ≡ getD ends (s - 1) 0
+start-later ends s h = simp (ne-eqb s 0 h, setStart)
 
 -- ---- the check of an instruction, by its nature
 

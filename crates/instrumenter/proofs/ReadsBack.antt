@@ -13,7 +13,7 @@ use Rattle.layout.specs.Layout.{piecesOf, fits}
 use Rattle.routines.specs.Accepted.{globalsFit, Accepted}
 use Rattle.routines.proofs.Layouts.{own-fit}
 use Rattle.instrumenter.specs.Instrumented.{instrumented}
-use Rattle.instrumenter.specs.Answer.{Answer, file, newFile, instrument}
+use Rattle.instrumenter.specs.Answer.{FileAnswer, file, newFile, instrument}
 use Rattle.files.proofs.RoundTrip.{one-spelling, reads-back}
 use Rattle.instrumenter.proofs.Instrumenting.{instrumented-good}
 use Rattle.instrumenter.proofs.Answers.{Because, unread, crowded, overfull, cramped, written, answered-because}
@@ -38,7 +38,7 @@ pub record Wrote (bytes : List ℕ) (room : ℕ) (out : List ℕ) : Type 0 where
 pub wrote : (bytes : List ℕ) (room : ℕ) (out : List ℕ) → instrument bytes room ≡ file out → Wrote bytes room out
 wrote bytes room out e = go (file out) (rw e at (answered-because bytes room)) refl
   where
-    go : (a : Answer) → Because bytes room a → a ≡ file out → Wrote bytes room out
+    go : (a : FileAnswer) → Because bytes room a → a ≡ file out → Wrote bytes room out
     go a (unread r) s = let z : _≡_ {A = ℕ} 0 1 = cc in absurd (omega arith)
     go a (crowded r c) s = let z : _≡_ {A = ℕ} 0 1 = cc in absurd (omega arith)
     go a (overfull r c f) s = let z : _≡_ {A = ℕ} 0 1 = cc in absurd (omega arith)

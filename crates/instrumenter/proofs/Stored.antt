@@ -15,7 +15,7 @@ use Rattle.files.specs.Held.{filled, line, endsFrom, joined, tabulate}
 use Rattle.safety.specs.Unsafe.{sizeOf}
 use Rattle.coloring.specs.Colored.{tinted}
 use Rattle.coloring.proofs.Tinted.{tinted-color}
-use Rattle.instrumenter.specs.Arrays.{startIn, firstIn, instrsIn}
+use Rattle.instrumenter.specs.Arrays.{setStart, firstIn, instrsIn}
 use Rattle.instrumenter.proofs.Cases.{start-first, start-later}
 
 -- ---- sizes and colors
@@ -36,7 +36,7 @@ end-at from [] s l = absurd (omega arith)
 end-at from (x ∷ sets) zero l = rw length-append (omega arith)
 end-at from (x ∷ sets) (suc s) l = rw length-append (omega (arith, end-at (from + length x) sets s (omega arith)))
 
-start-at : (n : ℕ) (sets : List (List ℕ)) (s : ℕ) → s < length sets → startIn (filled n 0 (endsFrom 0 sets)) s ≡ length (joined (take s sets))
+start-at : (n : ℕ) (sets : List (List ℕ)) (s : ℕ) → s < length sets → setStart (filled n 0 (endsFrom 0 sets)) s ≡ length (joined (take s sets))
 unfolding joined
 start-at n sets zero l = start-first (filled n 0 (endsFrom 0 sets)) 0 refl
 start-at n sets (suc s) l =

@@ -28,7 +28,7 @@ use Rattle.layout.proofs.Pieces.{pieces-held}
 use Rattle.routines.specs.Accepted.{globalsFit}
 use Rattle.routines.proofs.Layouts.{own-fit}
 use Rattle.instrumenter.specs.declared.Instrumented.{Instrumented}
-use Rattle.instrumenter.specs.Answer.{Answer, file, newFile, instrument, roomHolding, told}
+use Rattle.instrumenter.specs.Answer.{FileAnswer, file, newFile, instrument, roomHolding, told}
 use Rattle.instrumenter.specs.Arrays.{Version2}
 use Rattle.files.proofs.RoundTrip.{one-spelling, good-of, lines-bounds, whole-not-refused}
 use Rattle.instrumenter.proofs.Instrumenting.{instrumented-good}
@@ -39,7 +39,7 @@ use Rattle.instrumenter.proofs.Version.{file-is, writable-is}
 abbrev pub Answers : (bytes room : List ℕ) → Instrumented → (after : List ℕ) → Type 0
 Answers bytes room r after = (r ≡ told (instrument bytes (length room))) × (after ≡ roomHolding room (instrument bytes (length room)))
 
-answer : (bytes room : List ℕ) (a : Answer) → instrument bytes (length room) ≡ a → Answers bytes room (told a) (roomHolding room a)
+answer : (bytes room : List ℕ) (a : FileAnswer) → instrument bytes (length room) ≡ a → Answers bytes room (told a) (roomHolding room a)
 answer bytes room a e = (ap told (sym e), ap (roomHolding room) (sym e))
 
 module _ (bytes : List ℕ) where
@@ -66,8 +66,8 @@ module _ (bytes : List ℕ) where
       same : {q′ : Refusal} → colored (readFile 1 bytes) ≡ Reading.refused q′ → q′ ≡ q
       same {q′} e = let z : Outcome.Refused q′ ≡ Outcome.Refused q = sym (ap (λ (x : Reading). held x .outcome) e) ∙ o in cc
 
-      so : {q′ : Refusal} → colored (readFile 1 bytes) ≡ Reading.refused q′ → Because bytes (length room) (Answer.refused q′) → Answers bytes room (Instrumented.Refused q) room
-      so {q′} e b = subst (λ (x : Refusal). Answers bytes room (Instrumented.Refused x) room) (same e) (answer bytes room (Answer.refused q′) (answers bytes (length room) b))
+      so : {q′ : Refusal} → colored (readFile 1 bytes) ≡ Reading.refused q′ → Because bytes (length room) (FileAnswer.refused q′) → Answers bytes room (Instrumented.Refused q) room
+      so {q′} e b = subst (λ (x : Refusal). Answers bytes room (Instrumented.Refused x) room) (same e) (answer bytes room (FileAnswer.refused q′) (answers bytes (length room) b))
 
       counted : (p : Program) → readFile 1 bytes ≡ whole p → (b : Bool) → fewClasses p ≡ b → Answers bytes room (Instrumented.Refused q) room
       counted p r true c =
@@ -138,7 +138,7 @@ module _ (bytes : List ℕ) where
         → Answers bytes room (Instrumented.Refused (refusal 9 0)) room
     told-overfull room laid e h =
         let over : 28672 < endOf (piecesOf (tinted (colorIn (k .routine)) 0 (k .routine .objects))) = omega (arith, end-is laid e) in
-        answer bytes room (Answer.refused (refusal 9 0))
+        answer bytes room (FileAnswer.refused (refusal 9 0))
         (answers bytes (length room)
         (overfull (k .read) (k .classes) (sym (own-fit (k .routine)) ∙ lt-leb (endOf (piecesOf (tinted (colorIn (k .routine)) 0 (k .routine .objects)))) 28672 over)))
 
@@ -189,7 +189,7 @@ module _ (bytes : List ℕ) where
               subst Ends (sym (room-wide h .0)) (a .0, room-wide h .1 ∙ a .1)
           go false e =
               let h : length room < length (newFile (k .routine)) = leb-false (length (newFile (k .routine))) (length room) e in
-              let a = answer bytes room (Answer.refused (refusal 10 0)) (answers bytes (length room) (cramped (k .read) (k .classes) fit h)) in
+              let a = answer bytes room (FileAnswer.refused (refusal 10 0)) (answers bytes (length room) (cramped (k .read) (k .classes) fit h)) in
               subst Ends (sym (room-narrow h .0)) (a .0, room-narrow h .1 ∙ a .1)
 
       -- as the code meets it

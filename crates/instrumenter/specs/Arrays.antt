@@ -17,12 +17,12 @@ use Rattle.instrumenter.specs.declared.checks.Before.{Before}
 use Rattle.instrumenter.specs.Instrumented.{guarded, spanOf}
 
 -- where set s starts among the members: behind the set before it
-abbrev pub startIn : (ends : List ℕ) (s : ℕ) → ℕ
-startIn ends s = elim (eqb s 0) [ true ↦ 0 | false ↦ getD ends (s - 1) 0 ]
+abbrev pub setStart : (ends : List ℕ) (s : ℕ) → ℕ
+setStart ends s = elim (eqb s 0) [ true ↦ 0 | false ↦ getD ends (s - 1) 0 ]
 
 -- its lowest object
 abbrev pub firstIn : (ends members : List ℕ) (s : ℕ) → ℕ
-firstIn ends members s = getD members (startIn ends s) 0
+firstIn ends members s = getD members (setStart ends s) 0
 
 -- the check of a store; nothing else is checked
 abbrev pub checkFor : View → (color : ℕ) → Instr
@@ -58,7 +58,7 @@ abbrev pub PlacesAre : (checks : Instr → List Instr) (code : List Line) (lines
 PlacesAre checks code lines places = (t : ℕ) → t < lines → getD places t 0 ≡ spanOf checks (take t (instrsIn code))
 
 -- the first `lines` instructions, each behind its check
-pub record CodeIs (checks : Instr → List Instr) (target : ℕ → ℕ) (code : List Line) (lines count : ℕ) (out : List Line) : Type 0 where
+pub record GuardedCode (checks : Instr → List Instr) (target : ℕ → ℕ) (code : List Line) (lines count : ℕ) (out : List Line) : Type 0 where
   pub count-is : count ≡ length (guarded checks target (take lines (instrsIn code)))
   pub code-is : out ≡ filled 2000 (line Instr.End) (map line (guarded checks target (take lines (instrsIn code))))
 
@@ -70,7 +70,7 @@ checksIn l = checkIn (l .sizes) (l .colors) (l .ends) (l .members)
 pub record Version2 (l r : Loaded) : Type 0 where
   pub places : List ℕ
   pub placed : PlacesAre (checksIn l) (l .code) (l .lines) places
-  pub coded : CodeIs (checksIn l) (λ t. getD places t 0) (l .code) (l .lines) (r .lines) (r .code)
+  pub coded : GuardedCode (checksIn l) (λ t. getD places t 0) (l .code) (l .lines) (r .lines) (r .code)
   pub objects : r .objects ≡ l .objects
   pub kinds : r .kinds ≡ l .kinds
   pub sizes : r .sizes ≡ l .sizes

@@ -5,7 +5,7 @@ use safety::nature_of;
 ghost use mathlib.Core.Path.{_≡_};
 ghost use lib.ListN.{getD};
 ghost use Rattle.opcodes.specs.View.{view};
-ghost use Rattle.instrumenter.specs.Arrays.{startIn, firstIn, checkFor, asList, checkIn};
+ghost use Rattle.instrumenter.specs.Arrays.{setStart, firstIn, checkFor, asList, checkIn};
 ghost use Rattle.opcodes.specs.Moved.{moved};
 
 // What stands directly before the copy of an instruction.
@@ -16,7 +16,7 @@ pub enum Before {
 
 // Where set `s` starts among the members: behind the set before it.
 fn start_of(s: usize, ends: &[u16]) -> usize
-    ensures { λ r. ⌜ r ≡ startIn (now (ends .entry)) s ⌝ }
+    ensures { λ r. ⌜ r ≡ setStart (now (ends .entry)) s ⌝ }
 {
     if s == 0 {
         return 0;

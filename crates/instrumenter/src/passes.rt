@@ -8,7 +8,7 @@ use opcodes::Instr;
 ghost use mathlib.Core.Path.{_≡_};
 ghost use Prim.Native.Nat.{_+_, _≤_};
 ghost use lib.ListN.{length, getD};
-ghost use Rattle.instrumenter.specs.Arrays.{asList, checkIn, PlacesAre, CodeIs};
+ghost use Rattle.instrumenter.specs.Arrays.{asList, checkIn, PlacesAre, GuardedCode};
 
 // The code of version 2, of which the first so many lines count.
 pub struct Code {
@@ -62,7 +62,7 @@ pub(crate) fn guarded_code<'a>(
     members: &'a [u16],
 ) -> Code
     requires { ⌜ lines ≤ 1000 ⌝ }
-    ensures { λ r. ⌜ CodeIs (checkIn (now (sizes .entry)) (now (colors .entry)) (now (ends .entry)) (now (members .entry))) (λ t. getD (now (places .entry)) t 0) code lines (r .lines) (r .code) ⌝ }
+    ensures { λ r. ⌜ GuardedCode (checkIn (now (sizes .entry)) (now (colors .entry)) (now (ends .entry)) (now (members .entry))) (λ t. getD (now (places .entry)) t 0) code lines (r .lines) (r .code) ⌝ }
 {
     let mut guarded = [Line { instr: Instr::End }; 2000];
     let mut next = 0;

@@ -20,7 +20,7 @@ use Rattle.coloring.specs.Colored.{colorIn, classCount}
 use Rattle.layout.specs.Layout.{piecesOf, endOf, fits}
 use Rattle.routines.specs.Accepted.{plainPieces, Accepted}
 use Rattle.instrumenter.specs.Instrumented.{instrumented}
-use Rattle.instrumenter.specs.Answer.{Answer, file, newFile, instrument, roomHolding}
+use Rattle.instrumenter.specs.Answer.{FileAnswer, file, newFile, instrument, roomHolding}
 use Rattle.instrumenter.proofs.Answers as answers
 use Rattle.instrumenter.proofs.Answers.{Because, answered-because}
 use Rattle.instrumenter.proofs.Instrumenting.{instrumented-good}
@@ -46,7 +46,7 @@ says version bytes p r = one-spelling version bytes p r
 pub new-file-short : (p : Program) → Accepted p → length (newFile p) ≤ 32768
 new-file-short p a = good-of 2 (instrumented (colorIn p) p) (instrumented-good p (a .good) (a .classes)) .short
 
-pub because-refuses : (bytes : List ℕ) (room : ℕ) (a : Answer) → Because bytes room a → (q : Refusal) → a ≡ Answer.refused q → Refuses bytes room q
+pub because-refuses : (bytes : List ℕ) (room : ℕ) (a : FileAnswer) → Because bytes room a → (q : Refusal) → a ≡ FileAnswer.refused q → Refuses bytes room q
 because-refuses bytes room a (Because.unread {q = q′} r) q e =
     let same : q′ ≡ q = cc in
     subst (Refuses bytes room) same (Refuses.notAccepted (NotAccepted.unread (refused-why 1 (omega arith) bytes q′ r)))

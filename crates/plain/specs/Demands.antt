@@ -19,7 +19,7 @@ use Rattle.layout.specs.Layout.{piecesOf, endOf}
 use Rattle.memory.specs.Memory.{memorySize, colorAt}
 use Rattle.routines.specs.Accepted.{plainPieces, Accepted}
 use Rattle.instrumenter.specs.Instrumented.{instrumented}
-use Rattle.instrumenter.specs.Answer.{Answer, file, instrument, roomHolding}
+use Rattle.instrumenter.specs.Answer.{FileAnswer, file, instrument, roomHolding}
 use Rattle.machine.specs.declared.Reason.{Reason}
 use Rattle.machine.specs.Stop.{numberOf}
 use Rattle.machine.specs.State.{Rule, Given, State, startState}
@@ -72,7 +72,7 @@ pub data Refuses (bytes : List ℕ) (room : ℕ) : Refusal → Type 0 where
       → Refuses bytes room (refusal 10 0)
 
 abbrev pub RefusedOnlyFor : Type 0
-RefusedOnlyFor = (bytes room : List ℕ) (q : Refusal) → instrument bytes (length room) ≡ Answer.refused q
+RefusedOnlyFor = (bytes room : List ℕ) (q : Refusal) → instrument bytes (length room) ≡ FileAnswer.refused q
     → Refuses bytes (length room) q × (roomHolding room (instrument bytes (length room)) ≡ room)
 
 -- the file of an accepted routine, with room enough, is answered with a file that guards it

@@ -16,7 +16,7 @@ use Rattle.files.specs.Writing.{spellFile}
 use Rattle.safety.specs.Unsafe.{safeAim}
 use Rattle.coloring.specs.Colored.{colorIn}
 use Rattle.layout.specs.Layout.{startOf, endOf, piecesOf}
-use Rattle.instrumenter.specs.Answer.{Answer, file, instrument}
+use Rattle.instrumenter.specs.Answer.{FileAnswer, file, instrument}
 use Rattle.memory.specs.Memory.{memorySize, tableSize, colorAt}
 use Rattle.heap.specs.Heap.{Walk, unsound, blocks, walk}
 use Rattle.machine.specs.Stop.{numberOf, placeOf}
@@ -25,14 +25,14 @@ use Rattle.machine.specs.Running.{Lent, Answer as Ran, runFile}
 
 -- ---- instrumenting and running
 
-abbrev pub bytesIn : Answer → List ℕ
+abbrev pub bytesIn : FileAnswer → List ℕ
 bytesIn (file bytes) = bytes
-bytesIn (Answer.refused q) = []
+bytesIn (FileAnswer.refused q) = []
 
 -- the length of a file that was written, or the refusal's number and place
-abbrev pub answerIn : Answer → List ℕ
+abbrev pub answerIn : FileAnswer → List ℕ
 answerIn (file bytes) = length bytes ∷ []
-answerIn (Answer.refused q) = q .number ∷ q .place ∷ []
+answerIn (FileAnswer.refused q) = q .number ∷ q .place ∷ []
 
 -- version 2 of a version 1 file
 abbrev pub versionTwo : (bytes : List ℕ) → List ℕ

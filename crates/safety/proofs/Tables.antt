@@ -35,10 +35,10 @@ module _ {A : Type 0} where
   past f op x y z h = ap (λ (m : ℕ → ℕ → ℕ → Instr). f (m x y z)) (List·getD-eq-default makers (λ (x y z : ℕ). Instr.End) h)
 
   -- what a function gives for an instruction of each opcode
-  abbrev pub rows : (Instr → A) → (x y z : ℕ) → List A
-  rows f x y z = table (λ op. f (make op x y z)) 0 22
+  abbrev pub perOpcode : (Instr → A) → (x y z : ℕ) → List A
+  perOpcode f x y z = table (λ op. f (make op x y z)) 0 22
 
-  pub agree : (f g : Instr → A) → ((x y z : ℕ) → rows f x y z ≡ rows g x y z) → (i : Instr) → f i ≡ g i
+  pub agree : (f g : Instr → A) → ((x y z : ℕ) → perOpcode f x y z ≡ perOpcode g x y z) → (i : Instr) → f i ≡ g i
   agree f g e i =
       ap f (sym (make-parts i)) ∙ made (partsOf i .op) (partsOf i .x) (partsOf i .y) (partsOf i .z) ∙ ap g (make-parts i)
     where
@@ -51,7 +51,7 @@ module _ {A : Type 0} where
 
   -- the same for the opcodes that an arm of a match takes
   pub agree-on : (keys : List ℕ) (f g : Instr → A)
-      → ((x y z : ℕ) → rows f x y z ≡ rows (λ i. elim (hasKey keys (tagOf the-type i)) [ true ↦ g i | false ↦ f i ]) x y z)
+      → ((x y z : ℕ) → perOpcode f x y z ≡ perOpcode (λ i. elim (hasKey keys (tagOf the-type i)) [ true ↦ g i | false ↦ f i ]) x y z)
       → (i : Instr) → OneOf keys (tagOf the-type i) → f i ≡ g i
   agree-on keys f g e i h = agree f (λ i. elim (hasKey keys (tagOf the-type i)) [ true ↦ g i | false ↦ f i ]) e i ∙ go (hasKey keys (tagOf the-type i)) refl
     where

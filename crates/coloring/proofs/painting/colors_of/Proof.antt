@@ -4,8 +4,8 @@ use Prim.Native.Nat.{ℕ, _≤_, _<_, _-_, _+_}
 use native.Mathlib.Omega.{arith}
 use mathlib.Core.Path.{_≡_, refl, sym, ap, _∙_}
 use lib.ListN.{getD, set, replicate}
-use Rattle.coloring.specs.Labels.{leads, leaders, painted}
-use Rattle.coloring.proofs.Turns.{lead-most, leaders-most, leaders-turn, leaders-rise, painted-turn, painted-done}
+use Rattle.coloring.specs.Labels.{leads, leaders, numberedFrom}
+use Rattle.coloring.proofs.Turns.{lead-most, leaders-most, leaders-turn, leaders-rise, numbered-turn, numbered-done}
 use borrow.Author.Needs.{needs}
 use Rattle.coloring.proofs.painting.colors_of.Statement.{statement}
 use Rattle.coloring.proofs.painting.colors_of.Tie as tie
@@ -14,7 +14,7 @@ abbrev Inv-loop : tie.InvT-loop
 Inv-loop labels objects colors₀ next₀ x₀ colors next x =
     (x ≤ objects)
     × (next ≡ 2 + leaders labels x)
-    × (painted (objects - x) labels x next colors ≡ painted objects labels 0 2 (replicate 400 0))
+    × (numberedFrom (objects - x) labels x next colors ≡ numberedFrom objects labels 0 2 (replicate 400 0))
 
 abbrev μ-loop : tie.MeasureT-loop
 μ-loop labels objects colors₀ next₀ x₀ colors next x = objects - x
@@ -26,7 +26,7 @@ loop-holds c =
     let e : a .objects - 0 ≡ a .objects = omega arith in (
       omega arith,
       refl,
-      ap (λ (n : ℕ). painted n (a .labels .now) 0 2 (replicate 400 0)) e,
+      ap (λ (n : ℕ). numberedFrom n (a .labels .now) 0 2 (replicate 400 0)) e,
     )
 
 mul-label : tie.Need-mul-label Inv-loop μ-loop
@@ -69,9 +69,9 @@ loop-again c =
     let h : p .x < a .objects = omega arith in (
       omega arith,
       omega (arith, c .leader .ensures, leaders-turn l (p .x), p .inv .1),
-      ap (λ (n : ℕ). painted (a .objects - (p .x + 1)) l (p .x + 1) (p .next + n) (set (p .colors) (p .x) (c .before .color-of .result))) (c .leader .ensures)
-          ∙ ap (λ (t : ℕ). painted (a .objects - (p .x + 1)) l (p .x + 1) (p .next + leads l (p .x)) (set (p .colors) (p .x) t)) (c .before .color-of .ensures)
-          ∙ sym (painted-turn (a .objects) (p .x) (p .next) l (p .colors) h)
+      ap (λ (n : ℕ). numberedFrom (a .objects - (p .x + 1)) l (p .x + 1) (p .next + n) (set (p .colors) (p .x) (c .before .color-of .result))) (c .leader .ensures)
+          ∙ ap (λ (t : ℕ). numberedFrom (a .objects - (p .x + 1)) l (p .x + 1) (p .next + leads l (p .x)) (set (p .colors) (p .x) t)) (c .before .color-of .ensures)
+          ∙ sym (numbered-turn (a .objects) (p .x) (p .next) l (p .colors) h)
           ∙ p .inv .2,
     )
 
@@ -79,7 +79,7 @@ returns : tie.Need-returns Inv-loop μ-loop
 returns c =
     let a = c .before .before .args in
     let p = c .before .loop in
-    sym (painted-done (a .objects) (p .x) (p .next) (a .labels .now) (p .colors) (omega arith)) ∙ p .inv .2
+    sym (numbered-done (a .objects) (p .x) (p .next) (a .labels .now) (p .colors) (omega arith)) ∙ p .inv .2
 
 pub colors-of-spec : {M : Type 1} → statement M
 colors-of-spec =
