@@ -12,7 +12,7 @@ use Rattle.numbers.specs.declared.Read.{Read}
 use Rattle.opcodes.specs.declared.Operand.{Operand}
 use Rattle.opcodes.specs.declared.Instr.{Instr}
 use Rattle.opcodes.specs.Table.{rowOf, make}
-use Rattle.opcodes.specs.Ranges.{Scope, hasSets, lastOpcode, within, isColor, present, allowed}
+use Rattle.opcodes.specs.Ranges.{Scope, hasSets, hasOpcode, within, isColor, present, allowed}
 use Rattle.files.specs.declared.Object.{Object}
 use Rattle.files.specs.declared.ObjectRead.{ObjectRead}
 use Rattle.files.specs.declared.InstrRead.{InstrRead}
@@ -122,7 +122,7 @@ module _ (file : List ℕ) where
     follow-instr : (at : ℕ)
         → follow (instrPlan scope k) file at ≡ after (instr (readInstr scope file at)) (λ i behind. follow (k i) file behind)
     unfolding follow
-    follow-instr at = opcode (judged 6 (within 0 (lastOpcode (scope .version))) file at)
+    follow-instr at = opcode (judged 6 (hasOpcode (scope .version)) file at)
 
   module _ (objects : ℕ) (k : List ℕ → Plan) where
     follow-members : (left low : ℕ) (ns : List ℕ) (at : ℕ)

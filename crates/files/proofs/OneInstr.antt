@@ -15,7 +15,7 @@ use Rattle.opcodes.specs.declared.Operand.{Operand}
 use Rattle.opcodes.specs.declared.Scope as declared
 use Rattle.files.specs.declared.InstrRead.{InstrRead}
 use Rattle.opcodes.specs.Table.{rowOf, make}
-use Rattle.opcodes.specs.Ranges.{Scope, within, hasSets, present, allowed, lastOpcode, scopeOver}
+use Rattle.opcodes.specs.Ranges.{Scope, hasSets, present, allowed, hasOpcode, scopeOver}
 use Rattle.files.specs.Reading.{judged}
 use Rattle.files.specs.Inside.{Small}
 use Rattle.files.proofs.Judging.{Field, right, field-of-read}
@@ -23,7 +23,7 @@ use Rattle.files.specs.Parsing.{afterOpcode, afterFirst, afterSecond, af
 
 module _ (scope : Scope) (file : List ℕ) (at : ℕ) where
   abbrev opcodeAt : Read
-  opcodeAt = judged 6 (within 0 (lastOpcode (scope .version))) file at
+  opcodeAt = judged 6 (hasOpcode (scope .version)) file at
 
   pub no-opcode : {q : Refusal} → opcodeAt ≡ Read.Refused q → readInstr scope file at ≡ InstrRead.Refused q
   no-opcode e = ap (afterOpcode scope file) e

@@ -5,19 +5,19 @@ use mathlib.Core.List.{List}
 use mathlib.Core.Bool.{Bool, true, false}
 use native.Mathlib.Omega.{arith}
 use lib.ListN.{length}
-use lib.Dec.{eqb, leb}
-use borrow.Author.Tests.{eqb-true, leb-true, ltb-true, le-leb}
+use lib.Dec.{eqb}
+use borrow.Author.Tests.{eqb-true, leb-true, ltb-true}
 use Rattle.numbers.specs.declared.Cursor.{Cursor}
 use Rattle.numbers.specs.declared.Read.{Read}
 use Rattle.numbers.specs.Number.{spell}
-use Rattle.opcodes.proofs.Bounds.{within-bounds, within-true, last-most, kind-below}
+use Rattle.opcodes.proofs.Bounds.{within-bounds, opcode-below, kind-below}
 use Rattle.instructions.proofs.Parting.{Blank, parts, parts-make, make-parts}
 use Rattle.opcodes.specs.declared.Operand.{Operand}
 use Rattle.opcodes.specs.declared.Instr.{Instr}
 use Rattle.files.specs.declared.InstrRead.{InstrRead}
 use Rattle.opcodes.specs.declared.Parts.{Parts}
 use Rattle.opcodes.specs.Table.{rowOf, make, partsOf}
-use Rattle.opcodes.specs.Ranges.{Scope, within, present, allowed, lastOpcode}
+use Rattle.opcodes.specs.Ranges.{Scope, present, allowed, hasOpcode}
 use Rattle.files.specs.Reading.{judged}
 use Rattle.files.specs.Writing.{spellIf, spellParts, spellInstr, goodOperand, goodParts, goodInstr, both}
 use Rattle.files.proofs.SpelledNumbers.{Stands, stands-append, stands-split, Judged, judged-of-read, read-of-judged, Optional, optional-of-read, read-of-optional}
@@ -72,7 +72,7 @@ module _ (scope : Scope) (file : List ℕ) (at : ℕ) where
     a : ℕ
     b : ℕ
     c : ℕ
-    opcode : Judged file at (within 0 (lastOpcode (scope .version))) op a
+    opcode : Judged file at (hasOpcode (scope .version)) op a
     first : Optional file a (present (scope .version) (rowOf op .first)) (allowed scope (rowOf op .first)) x b
     second : Optional file b (present (scope .version) (rowOf op .second)) (allowed scope (rowOf op .second)) y c
     third : Optional file c (present (scope .version) (rowOf op .third)) (allowed scope (rowOf op .third)) z next
@@ -80,24 +80,23 @@ module _ (scope : Scope) (file : List ℕ) (at : ℕ) where
   four-right : (op x y z next : ℕ) → Four op x y z next → Right (make op x y z) next
   unfolding Right
   four-right op x y z next f =
-      let most : op ≤ lastOpcode (scope .version) = within-bounds 0 (lastOpcode (scope .version)) op (f .opcode .passes) .1 in
       let back : partsOf (make op x y z) ≡ parts op x y z =
-      parts-make op (omega (arith, last-most (scope .version))) x y z
+      parts-make op (opcode-below (scope .version) op (f .opcode .passes)) x y z
       (blank-of-good scope (rowOf op .first) x (f .first .passes))
       (blank-of-good scope (rowOf op .second) y (f .second .passes))
       (blank-of-good scope (rowOf op .third) z (f .third .passes)) in
       subst (λ (p : Parts). Stands file at (spellParts (scope .version) p) next × (goodParts scope p ≡ true)) (sym back) (
         stands-append _ _ (f .opcode .stood) (stands-append _ _ (f .first .stood) (stands-append _ _ (f .second .stood) (f .third .stood))),
-        both-true _ _ (le-leb op (lastOpcode (scope .version)) most)
+        both-true _ _ (f .opcode .passes)
             (both-true _ _ (f .first .passes) (both-true _ _ (f .second .passes) (f .third .passes))),
       )
 
   pub instr-of-read : {i : Instr} {c : Cursor} → readInstr scope file at ≡ InstrRead.Instr i c
       → Stands file at (spellInstr (scope .version) i) (c .at) × (goodInstr scope i ≡ true)
   unfolding Right
-  instr-of-read {i} {c} e = ops (judged 6 (within 0 (lastOpcode (scope .version))) file at) refl e
+  instr-of-read {i} {c} e = ops (judged 6 (hasOpcode (scope .version)) file at) refl e
     where
-      thirds : (op x y a b d : ℕ) → Judged file at (within 0 (lastOpcode (scope .version))) op a
+      thirds : (op x y a b d : ℕ) → Judged file at (hasOpcode (scope .version)) op a
           → Optional file a (present (scope .version) (rowOf op .first)) (allowed scope (rowOf op .first)) x b
           → Optional file b (present (scope .version) (rowOf op .second)) (allowed scope (rowOf op .second)) y d
           → (r : Read) → operandAt scope (rowOf op .third) file d ≡ r → afterThird op x y r ≡ InstrRead.Instr i c → Right i (c .at)
@@ -108,20 +107,20 @@ module _ (scope : Scope) (file : List ℕ) (at : ℕ) where
           (four-right op x y z (c .at) (record { a = a; b = b; c = d; opcode = o; first = p; second = q; third = rw (← ends) (optional-of-read _ 6 _ file d r) }))
       thirds op x y a b d o p q (Read.Refused w) r e = let z : _≡_ {A = ℕ} 0 1 = cc in absurd (omega arith)
 
-      seconds : (op x a b : ℕ) → Judged file at (within 0 (lastOpcode (scope .version))) op a
+      seconds : (op x a b : ℕ) → Judged file at (hasOpcode (scope .version)) op a
           → Optional file a (present (scope .version) (rowOf op .first)) (allowed scope (rowOf op .first)) x b
           → (r : Read) → operandAt scope (rowOf op .second) file b ≡ r → afterSecond scope file op x r ≡ InstrRead.Instr i c → Right i (c .at)
       seconds op x a b o p (Read.Number y n) r e =
           thirds op x y a b (n .at) o p (optional-of-read _ 6 _ file b r) (operandAt scope (rowOf op .third) file (n .at)) refl e
       seconds op x a b o p (Read.Refused w) r e = let z : _≡_ {A = ℕ} 0 1 = cc in absurd (omega arith)
 
-      firsts : (op a : ℕ) → Judged file at (within 0 (lastOpcode (scope .version))) op a
+      firsts : (op a : ℕ) → Judged file at (hasOpcode (scope .version)) op a
           → (r : Read) → operandAt scope (rowOf op .first) file a ≡ r → afterFirst scope file op r ≡ InstrRead.Instr i c → Right i (c .at)
       firsts op a o (Read.Number x n) r e =
           seconds op x a (n .at) o (optional-of-read _ 6 _ file a r) (operandAt scope (rowOf op .second) file (n .at)) refl e
       firsts op a o (Read.Refused w) r e = let z : _≡_ {A = ℕ} 0 1 = cc in absurd (omega arith)
 
-      ops : (r : Read) → judged 6 (within 0 (lastOpcode (scope .version))) file at ≡ r → afterOpcode scope file r ≡ InstrRead.Instr i c → Right i (c .at)
+      ops : (r : Read) → judged 6 (hasOpcode (scope .version)) file at ≡ r → afterOpcode scope file r ≡ InstrRead.Instr i c → Right i (c .at)
       ops (Read.Number op n) r e = firsts op (n .at) (judged-of-read 6 _ file at r) (operandAt scope (rowOf op .first) file (n .at)) refl e
       ops (Read.Refused w) r e = let z : _≡_ {A = ℕ} 0 1 = cc in absurd (omega arith)
 
@@ -135,21 +134,21 @@ read-of-operand scope bounded file kind at n next s g =
 
 -- what good parts say, one by one
 pub record GoodParts (scope : Scope) (p : Parts) : Type 0 where
-  pub opcode : p .op ≤ lastOpcode (scope .version)
+  pub opcode : hasOpcode (scope .version) (p .op) ≡ true
   pub first : goodOperand scope (rowOf (p .op) .first) (p .x) ≡ true
   pub second : goodOperand scope (rowOf (p .op) .second) (p .y) ≡ true
   pub third : goodOperand scope (rowOf (p .op) .third) (p .z) ≡ true
 
 pub good-parts : (scope : Scope) (p : Parts) → goodParts scope p ≡ true → GoodParts scope p
 good-parts scope p g =
-    let fits : Bool = leb (p .op) (lastOpcode (scope .version)) in
+    let fits : Bool = hasOpcode (scope .version) (p .op) in
     let x : Bool = goodOperand scope (rowOf (p .op) .first) (p .x) in
     let y : Bool = goodOperand scope (rowOf (p .op) .second) (p .y) in
     let z : Bool = goodOperand scope (rowOf (p .op) .third) (p .z) in
     let g₁ : both x (both y z) ≡ true = both-right fits (both x (both y z)) g in
     let g₂ : both y z ≡ true = both-right x (both y z) g₁ in
     record {
-      opcode = leb-true (p .op) (lastOpcode (scope .version)) (both-left fits (both x (both y z)) g);
+      opcode = both-left fits (both x (both y z)) g;
       first = both-left x (both y z) g₁;
       second = both-left y z g₂;
       third = both-right y z g₂;
@@ -166,8 +165,8 @@ read-of-instr scope file at bounded i next s g =
     let (s₂, r₂) = stands-split (spellIf (present v (rowOf (p .op) .first)) (p .x)) _ r₁ in
     let (s₃, s₄) = stands-split (spellIf (present v (rowOf (p .op) .second)) (p .y)) _ r₂ in
     let good : GoodParts scope p = good-parts scope p g in
-    let op-read = read-of-judged 6 (within 0 (lastOpcode v)) file at
-    (record { stood = s₁; passes = within-true 0 (lastOpcode v) (p .op) (omega arith) (good .opcode); small = omega (arith, last-most v, good .opcode) }) in
+    let op-read = read-of-judged 6 (hasOpcode v) file at
+    (record { stood = s₁; passes = good .opcode; small = omega (arith, opcode-below v (p .op) (good .opcode)) }) in
     ap (afterOpcode scope file) op-read
     ∙ ap (afterFirst scope file (p .op)) (read-of-operand scope bounded file (rowOf (p .op) .first) _ (p .x) _ s₂ (good .first))
     ∙ ap (afterSecond scope file (p .op) (p .x)) (read-of-operand scope bounded file (rowOf (p .op) .second) _ (p .y) _ s₃ (good .second))

@@ -12,7 +12,7 @@ use Rattle.numbers.specs.declared.Read.{Read}
 use Rattle.opcodes.specs.declared.Operand.{Operand}
 use Rattle.opcodes.specs.declared.Instr.{Instr}
 use Rattle.opcodes.specs.Table.{rowOf, make}
-use Rattle.opcodes.specs.Ranges.{Scope, hasSets, lastOpcode, within, isColor, present, allowed}
+use Rattle.opcodes.specs.Ranges.{Scope, hasSets, hasOpcode, within, isColor, present, allowed}
 use Rattle.files.specs.declared.Object.{Object}
 use Rattle.files.specs.declared.ObjectRead.{ObjectRead}
 use Rattle.files.specs.declared.InstrRead.{InstrRead}
@@ -112,7 +112,7 @@ afterOpcode scope file (Read.Number op next) = afterFirst scope file op (operand
 afterOpcode scope file (Read.Refused q) = InstrRead.Refused q
 
 abbrev pub readInstr : Scope → List ℕ → (at : ℕ) → InstrRead
-readInstr scope file at = afterOpcode scope file (judged 6 (within 0 (lastOpcode (scope .version))) file at)
+readInstr scope file at = afterOpcode scope file (judged 6 (hasOpcode (scope .version)) file at)
 
 unfoldable pub codeFrom : (left : ℕ) → Scope → List ℕ → (at : ℕ) → (done : List Instr) → Parsed (List Instr)
 codeFrom zero scope file at done = got done at

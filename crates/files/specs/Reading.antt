@@ -11,7 +11,7 @@ use Rattle.numbers.specs.Number.{readNumber}
 use Rattle.opcodes.specs.declared.Operand.{Operand}
 use Rattle.opcodes.specs.declared.Instr.{Instr}
 use Rattle.opcodes.specs.Table.{rowOf, make}
-use Rattle.opcodes.specs.Ranges.{Scope, hasSets, lastOpcode, within, isColor, present, allowed}
+use Rattle.opcodes.specs.Ranges.{Scope, hasSets, hasOpcode, within, isColor, present, allowed}
 use Rattle.files.specs.declared.Object.{Object}
 use Rattle.files.specs.Program.{Program, hasColors, mostCode, longest, kindsOf}
 
@@ -105,7 +105,7 @@ operandPlan scope kind k = maybe (present (scope .version) kind) (allowed scope 
 
 abbrev pub instrPlan : Scope → (Instr → Plan) → Plan
 instrPlan scope k =
-    ask field (within 0 (lastOpcode (scope .version))) λ op.
+    ask field (hasOpcode (scope .version)) λ op.
     operandPlan scope (rowOf op .first) λ x.
     operandPlan scope (rowOf op .second) λ y.
     operandPlan scope (rowOf op .third) λ z.

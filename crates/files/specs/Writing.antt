@@ -11,7 +11,7 @@ use Rattle.files.specs.declared.Object.{Object}
 use Rattle.opcodes.specs.declared.Instr.{Instr}
 use Rattle.opcodes.specs.declared.Parts.{Parts}
 use Rattle.opcodes.specs.Table.{rowOf, partsOf}
-use Rattle.opcodes.specs.Ranges.{Scope, hasSets, lastOpcode, within, isColor, present, allowed}
+use Rattle.opcodes.specs.Ranges.{Scope, hasSets, hasOpcode, within, isColor, present, allowed}
 use Rattle.files.specs.Program.{Program, hasColors, mostCode, longest, kindsOf}
 
 -- what each element of a list is spelled as, one after the other
@@ -91,7 +91,7 @@ goodOperand scope kind n =
 
 abbrev pub goodParts : Scope → Parts → Bool
 goodParts scope p =
-    both (leb (p .op) (lastOpcode (scope .version)))
+    both (hasOpcode (scope .version) (p .op))
     (both (goodOperand scope (rowOf (p .op) .first) (p .x))
     (both (goodOperand scope (rowOf (p .op) .second) (p .y))
     (goodOperand scope (rowOf (p .op) .third) (p .z))))

@@ -8,9 +8,10 @@ use opcodes::Scope;
 use opcodes::ranges::is_allowed;
 use opcodes::ranges::is_color;
 use opcodes::ranges::is_within;
+use opcodes::table::has_opcode;
 use opcodes::table::is_present;
 ghost use mathlib.Core.Path.{_≡_};
-ghost use Rattle.opcodes.specs.Ranges.{within, scopeOver};
+ghost use Rattle.opcodes.specs.Ranges.{hasOpcode, within, scopeOver};
 ghost use Rattle.files.specs.Reading.{judged, isMember};
 ghost use Rattle.files.specs.Inside.{whyRead, memberAt};
 ghost use Rattle.files.specs.Parsing.{colorAt, sizeAt, operandAt};
@@ -89,6 +90,21 @@ pub(crate) fn member_at(file: &[u8], from: Cursor, objects: usize, low: usize) -
         return read;
     };
     if !is_member(objects, low, n) {
+        return Read::Refused(Refusal { number: 6, place });
+    }
+    read
+}
+
+// An opcode of a version, or a refusal at its first byte.
+pub(crate) fn opcode_at(file: &[u8], from: Cursor, version: u8) -> Read
+    ensures { λ r. ⌜ r ≡ judged 6 (hasOpcode version) (now (file .entry)) (from .at) ⌝ }
+{
+    let place = from.at;
+    let read = reader::read_at(file, from);
+    let Read::Number(n, _) = read else {
+        return read;
+    };
+    if !has_opcode(version, n) {
         return Read::Refused(Refusal { number: 6, place });
     }
     read

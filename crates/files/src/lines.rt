@@ -3,6 +3,7 @@ use super::Ended;
 use super::InstrRead;
 use super::Line;
 use super::blank::blank_code;
+use super::fields::opcode_at;
 use super::fields::operand_at;
 use super::fields::ranged;
 use super::fields::why_read;
@@ -11,7 +12,6 @@ use numbers::Cursor;
 use numbers::Read;
 use numbers::Refusal;
 use opcodes::Scope;
-use opcodes::table::last_opcode;
 use opcodes::table::row_of;
 use reader::Reader;
 ghost use mathlib.Core.Path.{_≡_};
@@ -35,7 +35,7 @@ fn read_instr(file: &[u8], from: Cursor, kinds: &[u8], scope: Scope) -> InstrRea
     requires { ⌜ Small scope (now kinds) ⌝ }
     ensures { λ r. ⌜ r ≡ readInstr (scopeOver scope (now (kinds .entry))) (now (file .entry)) (from .at) ⌝ }
 {
-    let opcode = ranged(file, from, 6, 0, last_opcode(scope.version));
+    let opcode = opcode_at(file, from, scope.version);
     let Read::Number(op, past_opcode) = opcode else {
         return InstrRead::Refused(why_read(opcode));
     };

@@ -10,13 +10,12 @@ use mathlib.Core.Bool.{Bool, true}
 use mathlib.Core.List.{List}
 use native.Mathlib.Omega.{arith}
 use lib.ListN.{length, getD}
-use lib.Dec.{leb}
 use borrow.Author.Tests.{ltb-true}
 use Rattle.opcodes.specs.declared.Operand.{Operand}
 use Rattle.opcodes.specs.declared.Instr.{Instr}
 use Rattle.files.specs.declared.Line.{Line}
 use Rattle.opcodes.specs.Table.{rowOf, partsOf}
-use Rattle.opcodes.specs.Ranges.{Scope, lastOpcode}
+use Rattle.opcodes.specs.Ranges.{Scope, hasOpcode}
 use Rattle.files.specs.Writing.{both, every, goodOperand, goodInstr}
 use Rattle.files.proofs.Tests.{both-left, both-right, every-at}
 use Rattle.machine.specs.Turn.{NarrowOperand, Narrow, AllNarrow, codeOf}
@@ -54,7 +53,7 @@ narrow-instr scope i e =
     rest = both second third
 
     operands : both first rest ≡ true
-    operands = both-right (leb (partsOf i .op) (lastOpcode (scope .version))) (both first rest) e
+    operands = both-right (hasOpcode (scope .version) (partsOf i .op)) (both first rest) e
 
     others : both second third ≡ true
     others = both-right first rest operands

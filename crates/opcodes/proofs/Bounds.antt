@@ -7,7 +7,8 @@ use native.Mathlib.Omega.{arith}
 use lib.ListN.{length, getD}
 use lib.Dec.{ltb, leb, eqb}
 use borrow.Author.Tests.{eqb-true, leb-true, ltb-true, le-leb, lt-ltb}
-use Rattle.opcodes.specs.Ranges.{lastOpcode, within, isColor, isKind}
+use Rattle.opcodes.specs.Table.{rows, rowOf}
+use Rattle.opcodes.specs.Ranges.{hasGroup, hasOpcode, within, isColor, isKind}
 
 -- a number from low to high
 pub within-bounds : (low high n : ℕ) → within low high n ≡ true → (low ≤ n) × (n ≤ high)
@@ -39,9 +40,10 @@ kind-is kinds kind g e =
     let below : ltb g (length kinds) ≡ true = lt-ltb g (length kinds) (kind-below kinds kind g e) in
     eqb-true (getD kinds g 0) kind (rw (below, isKind) at e)
 
-pub last-most : (version : ℕ) → lastOpcode version ≤ 21
-last-most version = go (eqb version 1)
+-- an opcode has a row
+pub opcode-below : (version op : ℕ) → hasOpcode version op ≡ true → op < 22
+opcode-below version op e = go (ltb op (length rows)) refl e
   where
-    go : (b : Bool) → elim b as (λ _. ℕ) [ true ↦ 17 | false ↦ 21 ] ≤ 21
-    go true = omega arith
-    go false = omega arith
+    go : (b : Bool) → ltb op (length rows) ≡ b → elim b as (λ _. Bool) [ true ↦ hasGroup version (rowOf op .group) | false ↦ false ] ≡ true → op < 22
+    go true p e = ltb-true op 22 p
+    go false p e = let z : _≡_ {A = ℕ} 0 1 = cc in absurd (omega arith)

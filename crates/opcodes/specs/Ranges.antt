@@ -4,16 +4,23 @@ use mathlib.Core.List.{List}
 use mathlib.Core.Bool.{Bool, true, false}
 use lib.ListN.{length, getD}
 use lib.Dec.{ltb, leb, eqb}
+use Rattle.opcodes.specs.declared.Group.{Group}
 use Rattle.opcodes.specs.declared.Operand.{Operand}
 use Rattle.opcodes.specs.declared.Scope as declared
+use Rattle.opcodes.specs.Table.{rows, rowOf}
 
 -- "Version 2 .. has .. no sets"
 abbrev pub hasSets : (version : ℕ) → Bool
 hasSets version = eqb version 1
 
--- opcodes 18 to 21 are "version 2 only"
-abbrev pub lastOpcode : (version : ℕ) → ℕ
-lastOpcode version = elim (eqb version 1) [ true ↦ 17 | false ↦ 21 ]
+-- which versions have the opcodes of a group: checks are "version 2 only"
+abbrev pub hasGroup : (version : ℕ) → Group → Bool
+hasGroup version Group.Plain = true
+hasGroup version Group.Check = eqb version 2
+
+-- an opcode of a version: it has a row, of a group that the version has
+abbrev pub hasOpcode : (version op : ℕ) → Bool
+hasOpcode version op = elim (ltb op (length rows)) [ true ↦ hasGroup version (rowOf op .group) | false ↦ false ]
 
 -- a number from low to high
 abbrev pub within : (low high n : ℕ) → Bool

@@ -3,13 +3,20 @@ use Prim.Native.Nat.{ℕ}
 use mathlib.Core.List.{List, [], _∷_}
 use lib.ListN.{getD}
 use Rattle.opcodes.specs.declared.Operand.{Operand}
+use Rattle.opcodes.specs.declared.Group.{Group}
 use Rattle.opcodes.specs.declared.Row.{Row}
 use Rattle.opcodes.specs.declared.Parts.{Parts}
 use Rattle.opcodes.specs.declared.Instr.{Instr}
 use Rattle.opcodes.specs.declared.Instr.the-variants.{End, Place, Add, Sub, Less, Load8, Load32, Put8, Put32, Write8, Write32, Jump, JumpIf, Alloc, Free, In, Out, Check8, Check32, CheckPut8, CheckPut32}
 
-abbrev row : Operand → Operand → Operand → Row
-row x y z = record { first = x; second = y; third = z }
+abbrev row : Group → Operand → Operand → Operand → Row
+row group x y z = record { group = group; first = x; second = y; third = z }
+
+abbrev plain : Group
+plain = Group.Plain
+
+abbrev check : Group
+check = Group.Check
 
 abbrev none : Operand
 none = Operand.None
@@ -17,36 +24,36 @@ none = Operand.None
 abbrev temp : Operand
 temp = Operand.Temporary
 
--- the operands of each opcode, 0 to 21; "d, a and b name one of 16 temporaries", n is a Number, g a
+-- the group and the operands of each opcode, 0 to 21; "d, a and b name one of 16 temporaries", n is a Number, g a
 -- Global or a Site, k an Offset, s a Set, p a Target, c a Color
 abbrev pub rows : List Row
 rows =
-    row none none none
-    ∷ row temp Operand.Number none
-    ∷ row temp Operand.Global none
-    ∷ row temp temp temp
-    ∷ row temp temp temp
-    ∷ row temp temp temp
-    ∷ row temp temp none
-    ∷ row temp temp none
-    ∷ row Operand.Global Operand.Offset temp
-    ∷ row Operand.Global Operand.Offset temp
-    ∷ row temp temp Operand.Set
-    ∷ row temp temp Operand.Set
-    ∷ row Operand.Target none none
-    ∷ row temp Operand.Target none
-    ∷ row temp Operand.Site temp
-    ∷ row temp none none
-    ∷ row temp none none
-    ∷ row temp none none
-    ∷ row temp Operand.Color none
-    ∷ row temp Operand.Color none
-    ∷ row Operand.Global Operand.Offset Operand.Color
-    ∷ row Operand.Global Operand.Offset Operand.Color
+    row plain none none none
+    ∷ row plain temp Operand.Number none
+    ∷ row plain temp Operand.Global none
+    ∷ row plain temp temp temp
+    ∷ row plain temp temp temp
+    ∷ row plain temp temp temp
+    ∷ row plain temp temp none
+    ∷ row plain temp temp none
+    ∷ row plain Operand.Global Operand.Offset temp
+    ∷ row plain Operand.Global Operand.Offset temp
+    ∷ row plain temp temp Operand.Set
+    ∷ row plain temp temp Operand.Set
+    ∷ row plain Operand.Target none none
+    ∷ row plain temp Operand.Target none
+    ∷ row plain temp Operand.Site temp
+    ∷ row plain temp none none
+    ∷ row plain temp none none
+    ∷ row plain temp none none
+    ∷ row check temp Operand.Color none
+    ∷ row check temp Operand.Color none
+    ∷ row check Operand.Global Operand.Offset Operand.Color
+    ∷ row check Operand.Global Operand.Offset Operand.Color
     ∷ []
 
 abbrev pub rowOf : ℕ → Row
-rowOf op = getD rows op (row none none none)
+rowOf op = getD rows op (row plain none none none)
 
 -- the instruction that an opcode makes of its operands; an operand that the row lacks is not looked at
 abbrev pub makers : List (ℕ → ℕ → ℕ → Instr)

@@ -2,7 +2,7 @@
 // who takes an instruction apart.
 //
 // Every function answers for every number that it can be given.
-pub mod table; // table.rt: the rows, and which operands a version has
+pub mod table; // table.rt: the rows, and which opcodes and operands a version has
 pub mod ranges; // ranges.rt: the numbers that an operand may be
 
 // What an operand of an instruction names, and so its range; `None` where there is no operand.
@@ -18,8 +18,15 @@ pub enum Operand {
     Color,
 }
 
-// The operands of an opcode, in their order in the file.
+// The group of an opcode, which says in what versions it stands.
+pub enum Group {
+    Plain,
+    Check,
+}
+
+// An opcode's group, and its operands in their order in the file.
 pub struct Row {
+    pub group: Group,
     pub first: Operand,
     pub second: Operand,
     pub third: Operand,

@@ -1,132 +1,156 @@
-// The table of the opcodes: which operands each has, and which of them stand in a file. The reader and the
-// writer go by the same rows.
+// The table of the opcodes: in which versions each stands, which operands it has, and which of them stand in a
+// file. The reader and the writer go by the same rows.
+use super::Group;
 use super::Operand;
 use super::Row;
 ghost use mathlib.Core.Path.{_≡_};
 ghost use Rattle.opcodes.specs.Table.{rowOf};
-ghost use Rattle.opcodes.specs.Ranges.{lastOpcode, present};
+ghost use Rattle.opcodes.specs.Ranges.{hasGroup, hasOpcode, present};
 
-// The operands of the opcodes 0 to 21, in the order of the opcodes.
+// The opcodes 0 to 21, in their order.
 const ROWS: [Row; 22] = [
     Row {
+        group: Group::Plain,
         first: Operand::None,
         second: Operand::None,
         third: Operand::None,
     },
     Row {
+        group: Group::Plain,
         first: Operand::Temporary,
         second: Operand::Number,
         third: Operand::None,
     },
     Row {
+        group: Group::Plain,
         first: Operand::Temporary,
         second: Operand::Global,
         third: Operand::None,
     },
     Row {
+        group: Group::Plain,
         first: Operand::Temporary,
         second: Operand::Temporary,
         third: Operand::Temporary,
     },
     Row {
+        group: Group::Plain,
         first: Operand::Temporary,
         second: Operand::Temporary,
         third: Operand::Temporary,
     },
     Row {
+        group: Group::Plain,
         first: Operand::Temporary,
         second: Operand::Temporary,
         third: Operand::Temporary,
     },
     Row {
+        group: Group::Plain,
         first: Operand::Temporary,
         second: Operand::Temporary,
         third: Operand::None,
     },
     Row {
+        group: Group::Plain,
         first: Operand::Temporary,
         second: Operand::Temporary,
         third: Operand::None,
     },
     Row {
+        group: Group::Plain,
         first: Operand::Global,
         second: Operand::Offset,
         third: Operand::Temporary,
     },
     Row {
+        group: Group::Plain,
         first: Operand::Global,
         second: Operand::Offset,
         third: Operand::Temporary,
     },
     Row {
+        group: Group::Plain,
         first: Operand::Temporary,
         second: Operand::Temporary,
         third: Operand::Set,
     },
     Row {
+        group: Group::Plain,
         first: Operand::Temporary,
         second: Operand::Temporary,
         third: Operand::Set,
     },
     Row {
+        group: Group::Plain,
         first: Operand::Target,
         second: Operand::None,
         third: Operand::None,
     },
     Row {
+        group: Group::Plain,
         first: Operand::Temporary,
         second: Operand::Target,
         third: Operand::None,
     },
     Row {
+        group: Group::Plain,
         first: Operand::Temporary,
         second: Operand::Site,
         third: Operand::Temporary,
     },
     Row {
+        group: Group::Plain,
         first: Operand::Temporary,
         second: Operand::None,
         third: Operand::None,
     },
     Row {
+        group: Group::Plain,
         first: Operand::Temporary,
         second: Operand::None,
         third: Operand::None,
     },
     Row {
+        group: Group::Plain,
         first: Operand::Temporary,
         second: Operand::None,
         third: Operand::None,
     },
     Row {
+        group: Group::Check,
         first: Operand::Temporary,
         second: Operand::Color,
         third: Operand::None,
     },
     Row {
+        group: Group::Check,
         first: Operand::Temporary,
         second: Operand::Color,
         third: Operand::None,
     },
     Row {
+        group: Group::Check,
         first: Operand::Global,
         second: Operand::Offset,
         third: Operand::Color,
     },
     Row {
+        group: Group::Check,
         first: Operand::Global,
         second: Operand::Offset,
         third: Operand::Color,
     },
 ];
 
-// The operands of an opcode; a number that is no opcode has none.
+// The row of an opcode; a number that is no opcode has no operands.
 pub fn row_of(op: u32) -> Row
     ensures { λ r. ⌜ r ≡ rowOf op ⌝ }
 {
     let at = op as usize;
     if 22 <= at {
         return Row {
+            group: Group::Plain,
             first: Operand::None,
             second: Operand::None,
             third: Operand::None,
@@ -135,11 +159,23 @@ pub fn row_of(op: u32) -> Row
     ROWS[at]
 }
 
-// The last opcode of a version: checks stand in version 2 only.
-pub fn last_opcode(version: u8) -> u32
-    ensures { λ r. ⌜ r ≡ lastOpcode version ⌝ }
+// Whether a version has the opcodes of a group: checks stand in version 2 only.
+fn has_group(version: u8, group: Group) -> bool
+    ensures { λ r. ⌜ r ≡ hasGroup version group ⌝ }
 {
-    if version == 1 { 17 } else { 21 }
+    match group {
+        Group::Plain => true,
+        Group::Check => version == 2,
+    }
+}
+
+// Whether a number is an opcode of a version.
+pub fn has_opcode(version: u8, op: u32) -> bool
+    ensures { λ r. ⌜ r ≡ hasOpcode version op ⌝ }
+{
+    let row = row_of(op);
+    let group = row.group;
+    op < 22 && has_group(version, group)
 }
 
 // Whether an operand stands in a file: a WRITE names its set in version 1 only.

@@ -10,7 +10,7 @@ use Rattle.machine.specs.Running.{Lent, Answer, lentOf, answered}
 use Rattle.unique.specs.Once.{Once}
 use Rattle.unique.specs.Once.{numbers-read-number, numbers-number-width, numbers-write-number}
 use Rattle.unique.specs.Once.{reader-open, reader-after, reader-number, reader-read-at}
-use Rattle.unique.specs.Once.{opcodes-row-of, opcodes-last-opcode, opcodes-is-present, opcodes-is-within, opcodes-is-color, opcodes-is-allowed}
+use Rattle.unique.specs.Once.{opcodes-row-of, opcodes-has-opcode, opcodes-is-present, opcodes-is-within, opcodes-is-color, opcodes-is-allowed}
 use Rattle.unique.specs.Once.{instructions-instr-of, instructions-parts-of}
 use Rattle.unique.specs.Once.{files-read-routine, files-read-program}
 use Rattle.unique.specs.Once.{writer-write-program}
@@ -79,8 +79,8 @@ reader-read-at-once file from = once
 pub opcodes-row-of-once : opcodes-row-of
 opcodes-row-of-once op = once
 
-pub opcodes-last-opcode-once : opcodes-last-opcode
-opcodes-last-opcode-once version = once
+pub opcodes-has-opcode-once : opcodes-has-opcode
+opcodes-has-opcode-once version op = once
 
 pub opcodes-is-present-once : opcodes-is-present
 opcodes-is-present-once version kind = once

@@ -16,7 +16,7 @@ use Rattle.opcodes.specs.declared.Operand.{Operand}
 use Rattle.opcodes.specs.declared.Scope.{Scope}
 use Rattle.opcodes.specs.Table.{rowOf, make, partsOf}
 use Rattle.instructions.specs.Making.{made}
-use Rattle.opcodes.specs.Ranges.{lastOpcode, within, isColor, present, scopeOver, allowed}
+use Rattle.opcodes.specs.Ranges.{hasOpcode, within, isColor, present, scopeOver, allowed}
 use Rattle.opcodes.specs.View.{view}
 use Rattle.files.specs.declared.Loaded.{Loaded}
 use Rattle.files.specs.declared.Written as FileWritten
@@ -73,8 +73,8 @@ reader-read-at = (file : List ℕ) (from : Cursor) → Once (λ r. r ≡ readNum
 abbrev pub opcodes-row-of : Type 0
 opcodes-row-of = (op : ℕ) → Once (λ r. r ≡ rowOf op)
 
-abbrev pub opcodes-last-opcode : Type 0
-opcodes-last-opcode = (version : ℕ) → Once (λ r. r ≡ lastOpcode version)
+abbrev pub opcodes-has-opcode : Type 0
+opcodes-has-opcode = (version op : ℕ) → Once (λ r. r ≡ hasOpcode version op)
 
 abbrev pub opcodes-is-present : Type 0
 opcodes-is-present = (version : ℕ) (kind : Operand) → Once (λ r. r ≡ present version kind)

@@ -6,7 +6,7 @@ use Prim.Native.Nat.{ℕ, suc, _+_, _*_, _≤_}
 use native.Mathlib.Nat.{mul-suc}
 use native.Mathlib.Omega.{arith}
 use lib.ListN.{length, length-append}
-use lib.Dec.{eqb, leb}
+use lib.Dec.{eqb}
 use borrow.Author.Tests.{eq-eqb, ne-eqb}
 use Rattle.numbers.specs.Number.{spell, width}
 use Rattle.numbers.proofs.Laws.{width-most}
@@ -15,7 +15,7 @@ use Rattle.files.specs.declared.Object.{Object}
 use Rattle.opcodes.specs.declared.Instr.{Instr}
 use Rattle.opcodes.specs.declared.Parts.{Parts}
 use Rattle.opcodes.specs.Table.{partsOf, rowOf}
-use Rattle.opcodes.specs.Ranges.{Scope, present, within, isColor, lastOpcode}
+use Rattle.opcodes.specs.Ranges.{Scope, present, within, isColor, hasOpcode}
 use Rattle.files.specs.Writing.{spellIf, spellAll, spellObject, spellInstr, spellParts, every, both, goodObject, goodOperand, goodParts}
 use Rattle.writer.specs.Inside.{measured}
 use Rattle.files.proofs.Tests.{both-are, both-no, both-then, every-more, every-stops}
@@ -95,7 +95,7 @@ parts-length version q =
 
 module _ (scope : Scope) (q : Parts) where
   abbrev last : Bool
-  last = leb (q .op) (lastOpcode (scope .version))
+  last = hasOpcode (scope .version) (q .op)
 
   abbrev one : Bool
   one = goodOperand scope (rowOf (q .op) .first) (q .x)
@@ -106,7 +106,7 @@ module _ (scope : Scope) (q : Parts) where
   abbrev three : Bool
   three = goodOperand scope (rowOf (q .op) .third) (q .z)
 
-  pub bad-opcode : leb (q .op) (lastOpcode (scope .version)) ≡ false → goodParts scope q ≡ false
+  pub bad-opcode : hasOpcode (scope .version) (q .op) ≡ false → goodParts scope q ≡ false
   bad-opcode p = both-no {a = last} (both one (both two three)) p
 
   pub bad-first : goodOperand scope (rowOf (q .op) .first) (q .x) ≡ false → goodParts scope q ≡ false

@@ -8,8 +8,8 @@ use opcodes::Scope;
 use opcodes::ranges::is_allowed;
 use opcodes::ranges::is_color;
 use opcodes::ranges::is_within;
+use opcodes::table::has_opcode;
 use opcodes::table::is_present;
-use opcodes::table::last_opcode;
 use opcodes::table::row_of;
 ghost use mathlib.Core.Path.{_≡_};
 ghost use mathlib.Core.List.{map};
@@ -49,7 +49,7 @@ fn instr_length(kinds: &[u8], scope: Scope, instr: Instr) -> Length
     ensures { λ r. ⌜ r ≡ measured (goodInstr (scopeOver scope (now (kinds .entry))) instr) (length (spellInstr (scope .version) instr)) ⌝ }
 {
     let parts = parts_of(instr);
-    if last_opcode(scope.version) < parts.op {
+    if !has_opcode(scope.version, parts.op) {
         return Length::Bad;
     }
     let row = row_of(parts.op);

@@ -7,7 +7,7 @@ use Rattle.opcodes.specs.declared.Row.{Row}
 use Rattle.opcodes.specs.declared.Instr.{Instr}
 use Rattle.files.specs.declared.InstrRead.{InstrRead}
 use Rattle.opcodes.specs.Table.{rowOf}
-use Rattle.opcodes.specs.Ranges.{Scope, within, lastOpcode, scopeOver}
+use Rattle.opcodes.specs.Ranges.{Scope, hasOpcode, scopeOver}
 use Rattle.files.specs.Reading.{judged}
 use Rattle.files.specs.Inside.{whyRead}
 use Rattle.files.proofs.OneInstr.{no-opcode, no-first, no-second, no-third, an-instr, operand-fits}
@@ -16,11 +16,8 @@ use Rattle.files.proofs.lines.read_instr.Statement.{statement}
 use Rattle.files.proofs.lines.read_instr.Tie as tie
 use Rattle.files.specs.Parsing.{operandAt}
 
-last-opcode-requires : tie.Need-last-opcode-requires
-last-opcode-requires c κs = search needs
-
-ranged-requires : tie.Need-ranged-requires
-ranged-requires c κs = search needs
+opcode-at-requires : tie.Need-opcode-at-requires
+opcode-at-requires c κs = search needs
 
 enum-known-opcode : tie.Need-enum-known-opcode
 enum-known-opcode c = search needs
@@ -33,41 +30,40 @@ why-read-requires c κs = search needs
 
 -- the opcode and the operands, as the definition reads them
 opcode-is : (c : tie.After-known-told)
-    → judged 6 (within 0 (lastOpcode (c .before .before .before .before .before .before .before .args .scope .version))) (now (c .before .before .before .before .before .before .before .args .file)) (c .before .before .before .before .before .before .before .args .from .at)
+    → judged 6 (hasOpcode (c .before .before .before .before .before .before .args .scope .version)) (now (c .before .before .before .before .before .before .args .file)) (c .before .before .before .before .before .before .args .from .at)
     ≡ Read.Number (c .before .opcode .given .0 .0) (c .before .opcode .given .0 .1 .0)
 opcode-is c =
-    sym (ap (λ (k : ℕ). judged 6 (within 0 k) (now (c .before .before .before .before .before .before .before .args .file)) (c .before .before .before .before .before .before .before .args .from .at)) (c .before .before .before .before .last-opcode .ensures))
-    ∙ sym (c .before .before .before .ranged .ensures) ∙ c .before .opcode .given .1
+    sym (c .before .before .before .opcode-at .ensures) ∙ c .before .opcode .given .1
 
 abbrev scope-of : tie.After-known-told → Scope
-scope-of c = scopeOver (c .before .before .before .before .before .before .before .args .scope) (now (c .before .before .before .before .before .before .before .args .kinds))
+scope-of c = scopeOver (c .before .before .before .before .before .before .args .scope) (now (c .before .before .before .before .before .before .args .kinds))
 
 first-is : (c : tie.After-known-told2)
-    → operandAt (scope-of (c .before .before .before .before .before)) (rowOf (c .before .before .before .before .before .before .opcode .given .0 .0) .first) (now (c .before .before .before .before .before .before .before .before .before .before .before .before .args .file)) (c .before .before .before .before .before .before .opcode .given .0 .1 .0 .at)
+    → operandAt (scope-of (c .before .before .before .before .before)) (rowOf (c .before .before .before .before .before .before .opcode .given .0 .0) .first) (now (c .before .before .before .before .before .before .before .before .before .before .before .args .file)) (c .before .before .before .before .before .before .opcode .given .0 .1 .0 .at)
     ≡ Read.Number (c .before .first .given .0 .0) (c .before .first .given .0 .1 .0)
 first-is c =
-    sym (ap (λ (r : Row). operandAt (scope-of (c .before .before .before .before .before)) (r .first) (now (c .before .before .before .before .before .before .before .before .before .before .before .before .args .file)) (c .before .before .before .before .before .before .opcode .given .0 .1 .0 .at)) (c .before .before .before .before .row-of .ensures))
+    sym (ap (λ (r : Row). operandAt (scope-of (c .before .before .before .before .before)) (r .first) (now (c .before .before .before .before .before .before .before .before .before .before .before .args .file)) (c .before .before .before .before .before .before .opcode .given .0 .1 .0 .at)) (c .before .before .before .before .row-of .ensures))
     ∙ sym (c .before .before .before .operand-at .ensures) ∙ c .before .first .given .1
 
 second-is : (c : tie.After-known-told3)
-    → operandAt (scope-of (c .before .before .before .before .before .before .before .before .before)) (rowOf (c .before .before .before .before .before .before .before .before .before .before .opcode .given .0 .0) .second) (now (c .before .before .before .before .before .before .before .before .before .before .before .before .before .before .before .before .args .file)) (c .before .before .before .before .before .first .given .0 .1 .0 .at)
+    → operandAt (scope-of (c .before .before .before .before .before .before .before .before .before)) (rowOf (c .before .before .before .before .before .before .before .before .before .before .opcode .given .0 .0) .second) (now (c .before .before .before .before .before .before .before .before .before .before .before .before .before .before .before .args .file)) (c .before .before .before .before .before .first .given .0 .1 .0 .at)
     ≡ Read.Number (c .before .second .given .0 .0) (c .before .second .given .0 .1 .0)
 second-is c =
-    sym (ap (λ (r : Row). operandAt (scope-of (c .before .before .before .before .before .before .before .before .before)) (r .second) (now (c .before .before .before .before .before .before .before .before .before .before .before .before .before .before .before .before .args .file)) (c .before .before .before .before .before .first .given .0 .1 .0 .at)) (c .before .before .before .before .before .before .before .before .row-of .ensures))
+    sym (ap (λ (r : Row). operandAt (scope-of (c .before .before .before .before .before .before .before .before .before)) (r .second) (now (c .before .before .before .before .before .before .before .before .before .before .before .before .before .before .before .args .file)) (c .before .before .before .before .before .first .given .0 .1 .0 .at)) (c .before .before .before .before .before .before .before .before .row-of .ensures))
     ∙ sym (c .before .before .before .operand-at2 .ensures) ∙ c .before .second .given .1
 
 third-is : (c : tie.After-known-told4)
-    → operandAt (scope-of (c .before .before .before .before .before .before .before .before .before .before .before .before .before)) (rowOf (c .before .before .before .before .before .before .before .before .before .before .before .before .before .before .opcode .given .0 .0) .third) (now (c .before .before .before .before .before .before .before .before .before .before .before .before .before .before .before .before .before .before .before .before .args .file)) (c .before .before .before .before .before .second .given .0 .1 .0 .at)
+    → operandAt (scope-of (c .before .before .before .before .before .before .before .before .before .before .before .before .before)) (rowOf (c .before .before .before .before .before .before .before .before .before .before .before .before .before .before .opcode .given .0 .0) .third) (now (c .before .before .before .before .before .before .before .before .before .before .before .before .before .before .before .before .before .before .before .args .file)) (c .before .before .before .before .before .second .given .0 .1 .0 .at)
     ≡ Read.Number (c .before .third .given .0 .0) (c .before .third .given .0 .1 .0)
 third-is c =
-    sym (ap (λ (r : Row). operandAt (scope-of (c .before .before .before .before .before .before .before .before .before .before .before .before .before)) (r .third) (now (c .before .before .before .before .before .before .before .before .before .before .before .before .before .before .before .before .before .before .before .before .args .file)) (c .before .before .before .before .before .second .given .0 .1 .0 .at)) (c .before .before .before .before .before .before .before .before .before .before .before .before .row-of .ensures))
+    sym (ap (λ (r : Row). operandAt (scope-of (c .before .before .before .before .before .before .before .before .before .before .before .before .before)) (r .third) (now (c .before .before .before .before .before .before .before .before .before .before .before .before .before .before .before .before .before .before .before .args .file)) (c .before .before .before .before .before .second .given .0 .1 .0 .at)) (c .before .before .before .before .before .before .before .before .before .before .before .before .row-of .ensures))
     ∙ sym (c .before .before .before .operand-at3 .ensures) ∙ c .before .third .given .1
 
 returns : tie.Need-returns
 returns c =
     ap InstrRead.Refused (c .why-read .ensures ∙ ap whyRead (c .before .enum-told .given .1))
-    ∙ sym (no-opcode (scopeOver (c .before .before .before .before .before .before .before .args .scope) (now (c .before .before .before .before .before .before .before .args .kinds))) _ _
-    (sym (ap (λ (k : ℕ). judged 6 (within 0 k) (now (c .before .before .before .before .before .before .before .args .file)) (c .before .before .before .before .before .before .before .args .from .at)) (c .before .before .before .before .last-opcode .ensures)) ∙ sym (c .before .before .before .ranged .ensures) ∙ c .before .enum-told .given .1))
+    ∙ sym (no-opcode (scopeOver (c .before .before .before .before .before .before .args .scope) (now (c .before .before .before .before .before .before .args .kinds))) _ _
+    (sym (c .before .before .before .opcode-at .ensures) ∙ c .before .enum-told .given .1))
 
 row-of-requires : tie.Need-row-of-requires
 row-of-requires c κs = search needs
@@ -88,7 +84,7 @@ returns-2 : tie.Need-returns-2
 returns-2 c =
     ap InstrRead.Refused (c .why-read2 .ensures ∙ ap whyRead (c .before .enum-told2 .given .1))
     ∙ sym (no-first (scope-of (c .before .before .before .before .before)) _ _ (opcode-is (c .before .before .before .before .before))
-    (sym (ap (λ (r : Row). operandAt (scope-of (c .before .before .before .before .before)) (r .first) (now (c .before .before .before .before .before .before .before .before .before .before .before .before .args .file)) (c .before .before .before .before .before .before .opcode .given .0 .1 .0 .at)) (c .before .before .before .before .row-of .ensures)) ∙ sym (c .before .before .before .operand-at .ensures) ∙ c .before .enum-told2 .given .1))
+    (sym (ap (λ (r : Row). operandAt (scope-of (c .before .before .before .before .before)) (r .first) (now (c .before .before .before .before .before .before .before .before .before .before .before .args .file)) (c .before .before .before .before .before .before .opcode .given .0 .1 .0 .at)) (c .before .before .before .before .row-of .ensures)) ∙ sym (c .before .before .before .operand-at .ensures) ∙ c .before .enum-told2 .given .1))
 
 operand-at-requires-2 : tie.Need-operand-at-requires-2
 operand-at-requires-2 c κs = search needs
@@ -106,7 +102,7 @@ returns-3 : tie.Need-returns-3
 returns-3 c =
     ap InstrRead.Refused (c .why-read3 .ensures ∙ ap whyRead (c .before .enum-told3 .given .1))
     ∙ sym (no-second (scope-of (c .before .before .before .before .before .before .before .before .before)) _ _ (opcode-is (c .before .before .before .before .before .before .before .before .before)) (first-is (c .before .before .before .before))
-    (sym (ap (λ (r : Row). operandAt (scope-of (c .before .before .before .before .before .before .before .before .before)) (r .second) (now (c .before .before .before .before .before .before .before .before .before .before .before .before .before .before .before .before .args .file)) (c .before .before .before .before .before .first .given .0 .1 .0 .at)) (c .before .before .before .before .before .before .before .before .row-of .ensures)) ∙ sym (c .before .before .before .operand-at2 .ensures) ∙ c .before .enum-told3 .given .1))
+    (sym (ap (λ (r : Row). operandAt (scope-of (c .before .before .before .before .before .before .before .before .before)) (r .second) (now (c .before .before .before .before .before .before .before .before .before .before .before .before .before .before .before .args .file)) (c .before .before .before .before .before .first .given .0 .1 .0 .at)) (c .before .before .before .before .before .before .before .before .row-of .ensures)) ∙ sym (c .before .before .before .operand-at2 .ensures) ∙ c .before .enum-told3 .given .1))
 
 operand-at-requires-3 : tie.Need-operand-at-requires-3
 operand-at-requires-3 c κs = search needs
@@ -124,7 +120,7 @@ returns-4 : tie.Need-returns-4
 returns-4 c =
     ap InstrRead.Refused (c .why-read4 .ensures ∙ ap whyRead (c .before .enum-told4 .given .1))
     ∙ sym (no-third (scope-of (c .before .before .before .before .before .before .before .before .before .before .before .before .before)) _ _ (opcode-is (c .before .before .before .before .before .before .before .before .before .before .before .before .before)) (first-is (c .before .before .before .before .before .before .before .before)) (second-is (c .before .before .before .before))
-    (sym (ap (λ (r : Row). operandAt (scope-of (c .before .before .before .before .before .before .before .before .before .before .before .before .before)) (r .third) (now (c .before .before .before .before .before .before .before .before .before .before .before .before .before .before .before .before .before .before .before .before .args .file)) (c .before .before .before .before .before .second .given .0 .1 .0 .at)) (c .before .before .before .before .before .before .before .before .before .before .before .before .row-of .ensures)) ∙ sym (c .before .before .before .operand-at3 .ensures) ∙ c .before .enum-told4 .given .1))
+    (sym (ap (λ (r : Row). operandAt (scope-of (c .before .before .before .before .before .before .before .before .before .before .before .before .before)) (r .third) (now (c .before .before .before .before .before .before .before .before .before .before .before .before .before .before .before .before .before .before .before .args .file)) (c .before .before .before .before .before .second .given .0 .1 .0 .at)) (c .before .before .before .before .before .before .before .before .before .before .before .before .row-of .ensures)) ∙ sym (c .before .before .before .operand-at3 .ensures) ∙ c .before .enum-told4 .given .1))
 
 instr-of-requires : tie.Need-instr-of-requires
 instr-of-requires c κs = search needs
@@ -133,8 +129,8 @@ returns-5 : tie.Need-returns-5
 returns-5 c =
     let k = c .before in
     let s = k .before .before .before .before .before .before .before .before .before .before .before .before .before in
-    let file = now (s .before .before .before .before .before .before .before .args .file) in
-    let small = s .before .before .before .before .before .before .before .pre in
+    let file = now (s .before .before .before .before .before .before .args .file) in
+    let small = s .before .before .before .before .before .before .pre in
     let op = s .before .opcode .given .0 .0 in
     let first = first-is (k .before .before .before .before .before .before .before .before) in
     let second = second-is (k .before .before .before .before) in
@@ -150,8 +146,7 @@ pub read-instr-spec : {M : Type 1} → statement M
 read-instr-spec =
     tie.close
     (tie.spec
-    last-opcode-requires
-    ranged-requires
+    opcode-at-requires
     enum-known-opcode
     enum-told
     why-read-requires
