@@ -9,8 +9,8 @@ use crate::lent::filled_numbers;
 use crate::lent::filled_table;
 use crate::lent::low_word;
 use crate::lent::numbers_within;
-use controller::numbers_of;
-use machine::Run;
+use stops::Run;
+use stops::numbers_of;
 
 fn recorded<'a>(run: Run, memory: &'a [u8], table: &'a [u8], room: &'a [u32]) -> [u32; 8] {
     let five = numbers_of(run);

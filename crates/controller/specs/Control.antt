@@ -2,15 +2,13 @@
 -- the plain rule gives. No color and no version 2 stands here; what the table holds afterwards is said
 -- by TableAfter.
 use Prim.Native.Nat.{ℕ}
-use mathlib.Core.List.{List, [], _∷_, _++_}
+use mathlib.Core.List.{List, _++_}
 use mathlib.Core.Bool.{true, false}
 use lib.ListN.{length, drop}
 use Rattle.numbers.specs.declared.Refusal.{Refusal}
 use Rattle.files.specs.Program.{Program}
 use Rattle.files.specs.Reading.{Reading, whole, refusal, readFile}
 use Rattle.routines.specs.Accepted.{accepted}
-use Rattle.machine.specs.declared.Run.{Run}
-use Rattle.machine.specs.Stop.{numberOf, placeOf}
 use Rattle.machine.specs.State.{Given}
 use Rattle.machine.specs.Running.{Lent, Answer, refuse, exactLengths}
 use Rattle.plain.specs.Plain.{plainRun}
@@ -46,7 +44,3 @@ control file input limit lent =
       | true ↦ answerTo input limit lent (accepted (readFile 1 file))
       | false ↦ refuse lent (refusal 11 0)
     ]
-
--- "reason, place, steps, numbers out, numbers taken"
-abbrev pub fiveOf : Run → List ℕ
-fiveOf run = numberOf (run .reason) ∷ placeOf run ∷ run .steps ∷ run .out ∷ run .taken ∷ []

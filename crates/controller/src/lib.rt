@@ -3,29 +3,17 @@
 
 use instrumenter::Instrumented;
 use instrumenter::instrument;
-use machine::Reason;
-use machine::Run;
 use machine::run_file;
 use numbers::Refusal;
+use stops::Run;
+use stops::numbers_of;
+use stops::refused;
 ghost use mathlib.Core.Path.{_≡_};
 ghost use lib.ListN.{length};
-ghost use Rattle.machine.specs.Stop.{refusedRun, numberOf, placeFor};
-ghost use Rattle.controller.specs.Control.{control, fiveOf};
+ghost use Rattle.stops.specs.Stop.{fiveOf};
+ghost use Rattle.controller.specs.Control.{control};
 ghost use Rattle.controller.specs.Inside.{whyNot};
 ghost use Rattle.machine.specs.Running.{lentOf, answered};
-
-// The record of a routine that was not run.
-fn refused(q: Refusal) -> Run
-    ensures { λ r. ⌜ r ≡ refusedRun q ⌝ }
-{
-    Run {
-        reason: Reason::Refused(q),
-        place: 0,
-        steps: 0,
-        out: 0,
-        taken: 0,
-    }
-}
 
 // Why a routine was not instrumented.
 fn why_not(answer: Instrumented) -> Refusal
@@ -90,60 +78,6 @@ pub fn control(
         return refused(wrong);
     }
     instrument_and_run(file, input, memory, table, room, limit)
-}
-
-// The number of each reason, as 01 lists them.
-fn number_of(reason: Reason) -> u8
-    ensures { λ r. ⌜ r ≡ numberOf reason ⌝ }
-{
-    match reason {
-        Reason::Finished => 0,
-        Reason::PastEnd => 30,
-        Reason::LimitUsed => 31,
-        Reason::NoInput => 32,
-        Reason::NoRoom => 33,
-        Reason::ReadOutside => 34,
-        Reason::StoreOutside => 35,
-        Reason::Forbidden => 36,
-        Reason::BadFree => 37,
-        Reason::Unsound => 38,
-        Reason::Refused(q) => q.number,
-    }
-}
-
-// The place that goes with a reason: a refusal has its own.
-fn place_for(reason: Reason, place: usize) -> usize
-    ensures { λ r. ⌜ r ≡ placeFor reason place ⌝ }
-{
-    match reason {
-        Reason::Finished => place,
-        Reason::PastEnd => place,
-        Reason::LimitUsed => place,
-        Reason::NoInput => place,
-        Reason::NoRoom => place,
-        Reason::ReadOutside => place,
-        Reason::StoreOutside => place,
-        Reason::Forbidden => place,
-        Reason::BadFree => place,
-        Reason::Unsound => place,
-        Reason::Refused(q) => q.place,
-    }
-}
-
-// A record as the five numbers that come back.
-pub fn numbers_of(run: Run) -> [u64; 5]
-    ensures { λ r. ⌜ r ≡ fiveOf run ⌝ }
-{
-    let reason = run.reason;
-    let number = number_of(reason) as u64;
-    let place = place_for(reason, run.place) as u64;
-    [
-        number,
-        place,
-        run.steps as u64,
-        run.out as u64,
-        run.taken as u64,
-    ]
 }
 
 // The same for a host in C or Rust: the five numbers go to `numbers`.

@@ -11,7 +11,7 @@ use lib.Dec.{ltb, eqb}
 use Rattle.opcodes.specs.View.{bytes, Act}
 use Rattle.memory.specs.Memory.{inside}
 use Rattle.heap.specs.Heap.{Made, Freed, Alloc, Free, alloc, free}
-use Rattle.machine.specs.declared.Reason.{Reason}
+use Rattle.stops.specs.declared.Reason.{Reason}
 use Rattle.machine.specs.State.{Rule, Given, State, temp}
 use Rattle.machine.specs.Step.{Effect, stops, passes, completes, actEffect, allocating, freeing}
 

@@ -17,14 +17,14 @@ use lib.Seq.{length-take-le, take-at, drop-at, drop-drop}
 use Rattle.opcodes.specs.declared.Instr.{Instr}
 use Rattle.opcodes.specs.View.{view}
 use Rattle.memory.specs.Memory.{memorySize, tableSize}
-use Rattle.machine.specs.declared.Reason.{Reason}
+use Rattle.stops.specs.declared.Reason.{Reason}
 use Rattle.machine.specs.declared.Progress.{Progress}
 use Rattle.machine.specs.declared.Turn.{Turn}
 use Rattle.machine.specs.State.{Rule, Given, State}
 use Rattle.machine.specs.Step.{Next, stop, next, perform, step}
 use Rattle.machine.specs.Runs.{stopped, runFrom}
 use Rattle.machine.specs.Running.{Lent, Answer, leaves, lentOf, answered}
-use Rattle.machine.specs.Turn.{heldRule, Held, held, stateOf, Turned, progressOf, landed, turnOf, recordOf, runHeld}
+use Rattle.machine.specs.Turn.{heldRule, Held, held, stateOf, Turned, progressOf, landed, turnOf, recordAt, runHeld}
 use Rattle.machine.proofs.Steps.{step-past, step-limit, step-goes}
 use Rattle.machine.proofs.Turns.{turn-on, turn-stop, Forth, forth, weight, lighter}
 
@@ -66,18 +66,18 @@ module _ (r : Course) where
 
   -- what a stop leaves is what is held
   stop-leaves : (h : Held) (p : Progress) (reason : Reason) → p .out ≤ length (h .room) → drop (p .out) (h .room) ≡ drop (p .out) (r .room)
-      → answered (recordOf (r .code) p reason) (lentBy h) ≡ leaves (r .room) (stopped rule given (stateOf h p) reason)
+      → answered (recordAt (r .code) p reason) (lentBy h) ≡ leaves (r .room) (stopped rule given (stateOf h p) reason)
   stop-leaves h p reason fits behind =
       let long : p .out ≡ length (take (p .out) (h .room)) = sym (length-take-le (p .out) (h .room) fits) in
       let whole : h .room ≡ take (p .out) (h .room) ++ drop (length (take (p .out) (h .room))) (r .room) =
       sym (take-append-drop (p .out) (h .room)) ∙ ap (λ l. take (p .out) (h .room) ++ l) behind ∙ ap (λ n. take (p .out) (h .room) ++ drop n (r .room)) long in
-      (λ i. answered (recordOf (r .code) (record { at = p .at; steps = p .steps; out = long i; taken = p .taken }) reason) (lentOf (h .memory) (h .table) (whole i)))
+      (λ i. answered (recordAt (r .code) (record { at = p .at; steps = p .steps; out = long i; taken = p .taken }) reason) (lentOf (h .memory) (h .table) (whole i)))
 
   pub stops : (h : Held) (p : Progress) (reason : Reason) → Going h p → step rule given (stateOf h p) ≡ stop reason
-      → answered (recordOf (r .code) p reason) (lentBy h) ≡ r .answer
+      → answered (recordAt (r .code) p reason) (lentBy h) ≡ r .answer
   stops h p reason g e = go (g .turns) refl
     where
-      go : (turns : ℕ) → g .turns ≡ turns → answered (recordOf (r .code) p reason) (lentBy h) ≡ r .answer
+      go : (turns : ℕ) → g .turns ≡ turns → answered (recordAt (r .code) p reason) (lentBy h) ≡ r .answer
       go zero q = absurd (omega (arith, g .enough))
       go (suc turns) q =
           stop-leaves h p reason (g .outs) (g .behind)
@@ -85,11 +85,11 @@ module _ (r : Course) where
           ∙ g .rest
 
   pub stops-past : (h : Held) (p : Progress) → Going h p → length (r .code) ≤ p .at
-      → answered (recordOf (r .code) p Reason.PastEnd) (lentBy h) ≡ r .answer
+      → answered (recordAt (r .code) p Reason.PastEnd) (lentBy h) ≡ r .answer
   stops-past h p g past = stops h p Reason.PastEnd g (step-past rule given (stateOf h p) past)
 
   pub stops-limit : (h : Held) (p : Progress) → Going h p → p .at < length (r .code) → r .limit ≤ p .steps
-      → answered (recordOf (r .code) p Reason.LimitUsed) (lentBy h) ≡ r .answer
+      → answered (recordAt (r .code) p Reason.LimitUsed) (lentBy h) ≡ r .answer
   stops-limit h p g here used = stops h p Reason.LimitUsed g (step-limit rule given (stateOf h p) here used)
 
   -- ---- a turn
@@ -98,7 +98,7 @@ module _ (r : Course) where
   abbrev pub AfterTurn : Progress → Turned → Type 0
   AfterTurn p x =
       elim (x .turn) [
-        | Turn.Stop reason ↦ answered (recordOf (r .code) p reason) (lentBy (x .after)) ≡ r .answer
+        | Turn.Stop reason ↦ answered (recordAt (r .code) p reason) (lentBy (x .after)) ≡ r .answer
         | Turn.On q ↦
             (length (x .after .memory) ≡ memorySize → length (x .after .table) ≡ tableSize → length (x .after .room) ≡ length (r .room) → Going (x .after) q)
             × (weightOf q < weightOf p)

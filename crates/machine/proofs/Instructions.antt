@@ -9,7 +9,7 @@ use Rattle.opcodes.specs.View.{Width, inGlobal, atTemp, Act, check}
 use Rattle.memory.specs.Memory.{everyByte, hasColor}
 use Rattle.memory.specs.Lent.{within, loaded, stored}
 use Rattle.heap.specs.Lent.{allocated}
-use Rattle.machine.specs.declared.Reason.{Reason}
+use Rattle.stops.specs.declared.Reason.{Reason}
 use Rattle.machine.specs.declared.Turn.{Turn}
 use Rattle.machine.specs.State.{temp}
 use Rattle.machine.specs.Turn.{held, Turned, turned, turnOf, onward, toPlace, inputTurn, inputTemps, outputTurn, loadTurn, loadTemps, storeTurn, checkTurn, allocTurn, allocTemps, releaseTurn, freeAt}

@@ -25,7 +25,7 @@ use Rattle.memory.specs.Memory.{memorySize, tableSize, bytesOf, numberAt, put, 
 use Rattle.heap.specs.Heap.{Alloc, Free, alloc, free}
 use Rattle.memory.specs.Lent.{within, loaded, stored}
 use Rattle.heap.specs.Lent.{After, afterAlloc, allocated, afterFree, released}
-use Rattle.machine.specs.declared.Reason.{Reason}
+use Rattle.stops.specs.declared.Reason.{Reason}
 use Rattle.machine.specs.declared.Progress.{Progress}
 use Rattle.machine.specs.declared.Turn.{Turn}
 use Rattle.machine.specs.State.{Rule, Given, State, temp}

@@ -7,7 +7,6 @@
 --   Instructions     definition's step leads
 --   Turns, Going     the run loop: what is left to run from here is the answer of the whole run; a turn
 --                    makes the weight fall, and a stop's record is the definition's
---   Places           the place of a stop
 --   Starting         the table that is painted object by object is the first table
 --   Agreeing         the rule over what is held asks the table's rule nothing that it answers otherwise
 --   Temporaries      each temporary that an accepted file's code names is one of the 16
@@ -24,7 +23,6 @@ pub mod Landing
 pub mod Instructions
 pub mod Turns
 pub mod Going
-pub mod Places
 pub mod Starting
 pub mod Agreeing
 pub mod Temporaries

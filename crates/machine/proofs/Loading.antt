@@ -35,13 +35,14 @@ use Rattle.memory.specs.Memory.{memorySize, tableSize}
 use Rattle.heap.specs.Heap.{paintMade, paintFreed, emptyHeap}
 use Rattle.heap.specs.Lent.{started}
 use Rattle.heap.proofs.Exact.{started-exact}
-use Rattle.machine.specs.declared.Run.{Run}
-use Rattle.machine.specs.Stop.{refusedRun}
+use Rattle.stops.specs.declared.Run.{Run}
+use Rattle.stops.specs.Stop.{refusedRun}
+use Rattle.stops.specs.Held.{codeOf}
 use Rattle.machine.specs.State.{Given, State, blankMemory, startState}
 use Rattle.machine.specs.Runs.{runFrom, runs}
 use Rattle.machine.specs.Colors.{tableAllows, colorOfObject, tableRule, firstTable}
 use Rattle.machine.specs.Running.{Lent, Answer, refuse, leaves, runProgram, runReading, runFile, lentOf, answered}
-use Rattle.machine.specs.Turn.{heldRule, Low, AllNarrow, codeOf, runHeld}
+use Rattle.machine.specs.Turn.{heldRule, Low, AllNarrow, runHeld}
 use Rattle.machine.specs.Start.{piecesHeld, laidTable, Runnable, runLoaded}
 use Rattle.machine.proofs.Starting.{noObject, start-is, laid-first}
 use Rattle.machine.proofs.Agreeing.{same-runs, agrees}

@@ -14,7 +14,7 @@ use Rattle.heap.specs.declared.Allocation.{Allocation}
 use Rattle.heap.specs.declared.Release.{Release}
 use Rattle.memory.specs.Lent.{within, loaded, stored}
 use Rattle.heap.specs.Lent.{allocated, released}
-use Rattle.machine.specs.declared.Reason.{Reason}
+use Rattle.stops.specs.declared.Reason.{Reason}
 use Rattle.machine.specs.declared.Progress.{Progress}
 use Rattle.machine.specs.declared.Turn.{Turn}
 use Rattle.machine.specs.Turn.{onward, toPlace, ahead, passed, inputTurn, inputTemps, outputTurn, loadTurn, loadTemps, storeTurn, checkTurn, allocTurn, allocTemps, releaseTurn, freeAt}

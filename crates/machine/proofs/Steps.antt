@@ -9,7 +9,7 @@ use borrow.Author.Tests.{lt-ltb, le-ltb, ltb-true, ltb-false}
 use Rattle.opcodes.specs.declared.Instr.{Instr}
 use Rattle.opcodes.specs.View.{Aim, store, view}
 use Rattle.memory.specs.Memory.{bytesOf, put, inside}
-use Rattle.machine.specs.declared.Reason.{Reason}
+use Rattle.stops.specs.declared.Reason.{Reason}
 use Rattle.machine.specs.State.{Rule, Given, State, temp, addressOf}
 use Rattle.machine.specs.Step.{completes, Next, stop, next, widthOf, storing, conclude, lets, perform, step}
 

@@ -18,8 +18,9 @@ use Rattle.opcodes.specs.Table.{rowOf, partsOf}
 use Rattle.opcodes.specs.Ranges.{Scope, hasOpcode}
 use Rattle.files.specs.Writing.{both, every, goodOperand, goodInstr}
 use Rattle.files.proofs.Tests.{both-left, both-right, every-at}
-use Rattle.machine.specs.Turn.{NarrowOperand, Narrow, AllNarrow, codeOf}
-use Rattle.machine.proofs.Places.{code-length, code-at}
+use Rattle.machine.specs.Turn.{NarrowOperand, Narrow, AllNarrow}
+use Rattle.stops.specs.Held.{codeOf}
+use Rattle.stops.proofs.Places.{code-length, code-at}
 
 narrow-operand : (scope : Scope) (kind : Operand) (x : ℕ) → goodOperand scope kind x ≡ true → NarrowOperand 16 kind x
 narrow-operand scope Operand.None x e = tt

@@ -11,7 +11,7 @@ use lib.Dec.{ltb, eqb}
 use Rattle.opcodes.specs.View.{View, Act, act, jump, jumpIf, store, check, bytes}
 use Rattle.memory.specs.Memory.{inside}
 use Rattle.heap.specs.Heap.{Alloc, Free, alloc, free}
-use Rattle.machine.specs.declared.Reason.{Reason}
+use Rattle.stops.specs.declared.Reason.{Reason}
 use Rattle.machine.specs.State.{Rule, Given, State, temp, addressOf}
 use Rattle.machine.specs.Step.{Effect, stops, passes, completes, Next, stop, next, conclude, allocating, freeing, actEffect, effect, lets, perform, step, widthOf}
 use Rattle.machine.specs.Runs.{stopped, runFrom}

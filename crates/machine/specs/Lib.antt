@@ -1,4 +1,3 @@
-pub mod Stop
 pub mod State
 pub mod Step
 pub mod Runs

@@ -9,8 +9,8 @@ use Rattle.files.specs.Program.{Program}
 use Rattle.files.specs.Reading.{Reading, whole, refusal, readFile}
 use Rattle.layout.specs.Layout.{piecesOf, fits}
 use Rattle.memory.specs.Memory.{memorySize, tableSize}
-use Rattle.machine.specs.declared.Run.{Run}
-use Rattle.machine.specs.Stop.{refusedRun}
+use Rattle.stops.specs.declared.Run.{Run}
+use Rattle.stops.specs.Stop.{refusedRun}
 use Rattle.machine.specs.Runs.{Outcome, runs}
 use Rattle.machine.specs.Colors.{tableRule, firstTable}
 

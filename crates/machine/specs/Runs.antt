@@ -2,9 +2,9 @@
 use Prim.Native.Nat.{ℕ, zero, suc, _+_, _*_}
 use mathlib.Core.List.{List}
 use lib.ListN.{length}
-use Rattle.machine.specs.declared.Reason.{Reason}
-use Rattle.machine.specs.declared.Run.{Run}
-use Rattle.machine.specs.Stop.{placeIn}
+use Rattle.stops.specs.declared.Reason.{Reason}
+use Rattle.stops.specs.declared.Run.{Run}
+use Rattle.stops.specs.Stop.{recordOf}
 use Rattle.machine.specs.State.{Rule, Given, State, startState}
 use Rattle.machine.specs.Step.{stop, next, step}
 
@@ -21,14 +21,7 @@ module _ {S : Type 0} (rule : Rule S) (given : Given) where
   abbrev pub stopped : State S → Reason → Outcome S
   stopped state reason =
       record {
-        run =
-            record {
-              reason = reason;
-              place = placeIn (rule .code) (state .at);
-              steps = state .steps;
-              out = length (state .outs);
-              taken = state .taken;
-            };
+        run = recordOf (rule .code) (state .at) (state .steps) (length (state .outs)) (state .taken) reason;
         outs = state .outs;
         memory = state .memory;
         own = state .own;

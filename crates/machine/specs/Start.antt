@@ -14,8 +14,9 @@ use Rattle.memory.specs.Memory.{memorySize, tableSize}
 use Rattle.heap.specs.Heap.{heapStart, endSlot}
 use Rattle.memory.specs.Lent.{painted}
 use Rattle.heap.specs.Lent.{started}
+use Rattle.stops.specs.Held.{codeOf}
 use Rattle.machine.specs.Running.{Lent, Answer, refuse, lentOf}
-use Rattle.machine.specs.Turn.{AllNarrow, codeOf, runHeld}
+use Rattle.machine.specs.Turn.{AllNarrow, runHeld}
 
 -- the slots of a global; a heap site has none at the start
 abbrev pub paintOne : (table : List ℕ) (kind start size color : ℕ) → List ℕ

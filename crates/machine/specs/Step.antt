@@ -8,7 +8,7 @@ use Rattle.opcodes.specs.declared.Instr.{Instr}
 use Rattle.opcodes.specs.View.{Aim, inGlobal, atTemp, bytes, Act, View, act, jump, jumpIf, store, check, view}
 use Rattle.memory.specs.Memory.{bytesOf, numberAt, put, inside}
 use Rattle.heap.specs.Heap.{Alloc, Free, alloc, free}
-use Rattle.machine.specs.declared.Reason.{Reason}
+use Rattle.stops.specs.declared.Reason.{Reason}
 use Rattle.machine.specs.State.{Rule, Given, State, temp, addressOf}
 
 -- what an instruction does that the rule lets go on: it stops the run, it passes as a check does, or

@@ -2,13 +2,12 @@
 -- words of contracts inside this crate; what running promises is said in Running.
 use Prim.Native.Nat.{ℕ, _+_, _*_, _<_, _≤_}
 use mathlib.Core.Path.{_≡_}
-use mathlib.Core.List.{List, [], _++_, map}
+use mathlib.Core.List.{List, [], _++_}
 use mathlib.Core.Bool.{Bool, true, false}
 use lib.ListN.{length, getD, set, take, drop, replicate}
 use lib.Dec.{ltb, eqb}
 use Rattle.opcodes.specs.declared.Operand.{Operand}
 use Rattle.opcodes.specs.declared.Instr.{Instr}
-use Rattle.files.specs.declared.Line.{Line}
 use Rattle.opcodes.specs.Table.{rowOf, partsOf}
 use Rattle.opcodes.specs.View.{view}
 use Rattle.memory.specs.Memory.{memorySize, tableSize}
@@ -17,13 +16,13 @@ use Rattle.memory.specs.declared.Load.{Load}
 use Rattle.heap.specs.declared.Allocation.{Allocation}
 use Rattle.heap.specs.declared.Release.{Release}
 use Rattle.heap.specs.Lent.{After, released}
-use Rattle.machine.specs.declared.Reason.{Reason}
+use Rattle.stops.specs.declared.Reason.{Reason}
 use Rattle.machine.specs.declared.Progress.{Progress}
 use Rattle.machine.specs.declared.Turn.{Turn}
 use Rattle.machine.specs.State.{Rule, State}
 use Rattle.machine.specs.Step.{Next, stop, next, perform}
-use Rattle.machine.specs.Stop.{placeIn}
-use Rattle.machine.specs.declared.Run.{Run}
+use Rattle.stops.specs.Stop.{recordOf}
+use Rattle.stops.specs.declared.Run.{Run}
 use Rattle.machine.specs.Runs.{runFrom}
 use Rattle.machine.specs.Colors.{tableAllows}
 use Rattle.machine.specs.Running.{Lent, Answer, leaves}
@@ -207,14 +206,9 @@ freeAt m t address =
 
 -- ---- a whole run
 
--- the instructions that are held
-abbrev pub codeOf : List Line → (lines : ℕ) → List Instr
-codeOf code lines = map (λ x. x .instr) (take lines code)
-
 -- the record of a stop
-abbrev pub recordOf : List Instr → Progress → Reason → Run
-recordOf code p reason =
-    record { reason = reason; place = placeIn code (p .at); steps = p .steps; out = p .out; taken = p .taken }
+abbrev pub recordAt : List Instr → Progress → Reason → Run
+recordAt code p reason = recordOf code (p .at) (p .steps) (p .out) (p .taken) reason
 
 -- a run from memory and table that are laid out
 abbrev pub runHeld : (code : List Instr) (starts colors input : List ℕ) (limit : ℕ) → Lent → Answer

@@ -10,7 +10,6 @@ ghost use Rattle.machine.specs.Turn.{Counts, Low, loadTurn, loadTemps, s
 ghost use Rattle.machine.specs.Turn.{allocTurn, allocTemps, releaseTurn, freeAt};
 ghost use Rattle.machine.specs.declared.Turn.{Turn};
 use super::Progress;
-use super::Reason;
 use super::Turn;
 use super::temps::becomes;
 use super::temps::completed;
@@ -19,6 +18,7 @@ use super::temps::value;
 use heap::Allocation;
 use heap::Release;
 use memory::Load;
+use stops::Reason;
 
 // The start of an object; one that is not there has 0.
 pub(crate) fn start_of(starts: &[u32], g: u16) -> u32

@@ -3,39 +3,16 @@ ghost use mathlib.Core.Path.{_≡_};
 ghost use Rattle.machine.specs.Running.{runFile, answered, lentOf};
 use files::Outcome;
 use numbers::Refusal;
+use stops::Reason;
+use stops::Run;
+use stops::refused;
 
 mod temps; // temps.rt: temporaries and calculations
 mod moves; // moves.rt: jumps, input and output
 mod step; // step.rt: one turn
-mod place; // place.rt: the record of a stop
 mod running; // running.rt: the run loop
 mod start; // start.rt: memory and table at the start
 mod lent; // lent.rt: memory, table and heap
-
-// Why a run stopped, or why there was none.
-pub enum Reason {
-    Finished,
-    PastEnd,
-    LimitUsed,
-    NoInput,
-    NoRoom,
-    ReadOutside,
-    StoreOutside,
-    Forbidden,
-    BadFree,
-    Unsound,
-    Refused(Refusal),
-}
-
-// A run's record: why and where it stopped, how many instructions were completed, how many numbers
-// were put out, and how many were taken.
-pub struct Run {
-    pub reason: Reason,
-    pub place: usize,
-    pub steps: u32,
-    pub out: usize,
-    pub taken: usize,
-}
 
 // How far a run has come: the counts of numbers taken and out, the next instruction, and the steps. What
 // changes least stands first: in a turn's answer a reason to stop shares the bytes of the first field,
@@ -66,13 +43,13 @@ pub fn run_file(
     ensures { λ r. ⌜ answered r (lentOf (now (memory .exit)) (now (table .exit)) (now (room .exit))) ≡ runFile (now (file .entry)) (now (input .entry)) limit (lentOf (now (memory .entry)) (now (table .entry)) (now (room .entry))) ⌝ }
 {
     if memory.len() != 57344 {
-        return start::refused(Refusal {
+        return refused(Refusal {
             number: 11,
             place: 0,
         });
     }
     if table.len() != 7168 {
-        return start::refused(Refusal {
+        return refused(Refusal {
             number: 11,
             place: 0,
         });
@@ -80,7 +57,7 @@ pub fn run_file(
     let held = files::read_program(file);
     let outcome = held.outcome;
     match outcome {
-        Outcome::Refused(why) => start::refused(why),
+        Outcome::Refused(why) => refused(why),
         Outcome::Whole => start::run_loaded(held, input, limit, memory, table, room),
     }
 }

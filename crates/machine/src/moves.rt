@@ -6,10 +6,10 @@ ghost use Rattle.machine.specs.State.{temp};
 ghost use Rattle.machine.specs.Turn.{Counts, toPlace, inputTurn, inputTemps, outputTurn};
 ghost use Rattle.machine.specs.declared.Turn.{Turn};
 use super::Progress;
-use super::Reason;
 use super::Turn;
 use super::temps::set_temp;
 use super::temps::value;
+use stops::Reason;
 
 // To instruction p.
 pub(crate) fn jump(from: Progress, p: u16) -> Turn

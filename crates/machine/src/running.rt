@@ -3,14 +3,15 @@ ghost use mathlib.Core.Path.{_≡_};
 ghost use Prim.Native.Nat.{_≤_};
 ghost use lib.ListN.{length};
 ghost use Rattle.memory.specs.Memory.{memorySize, tableSize};
-ghost use Rattle.machine.specs.Turn.{codeOf, Low, AllNarrow, runHeld};
+ghost use Rattle.stops.specs.Held.{codeOf};
+ghost use Rattle.machine.specs.Turn.{Low, AllNarrow, runHeld};
 use super::Progress;
-use super::Reason;
-use super::Run;
 use super::Turn;
-use super::place::recorded;
 use super::step::step;
 use files::Line;
+use stops::Reason;
+use stops::Run;
+use stops::place::recorded;
 ghost use Rattle.machine.specs.Running.{answered, lentOf};
 
 pub(crate) fn run_code(
@@ -39,10 +40,18 @@ pub(crate) fn run_code(
         let steps = now.steps;
         // Past the last one first, then the limit, and both before a check too.
         if lines <= at {
-            return recorded(code, lines, now, Reason::PastEnd);
+            return recorded(code, lines, at, steps, now.out, now.taken, Reason::PastEnd);
         }
         if limit <= steps {
-            return recorded(code, lines, now, Reason::LimitUsed);
+            return recorded(
+                code,
+                lines,
+                at,
+                steps,
+                now.out,
+                now.taken,
+                Reason::LimitUsed,
+            );
         }
         let line = code[at];
         let i = line.instr;
@@ -59,7 +68,7 @@ pub(crate) fn run_code(
         );
         match turn {
             Turn::Stop(reason) => {
-                return recorded(code, lines, now, reason);
+                return recorded(code, lines, at, steps, now.out, now.taken, reason);
             }
             Turn::On(next) => {
                 now = next;

@@ -2,27 +2,13 @@
 ghost use mathlib.Core.Path.{_≡_};
 ghost use Prim.Native.Nat.{_≤_};
 ghost use Rattle.opcodes.specs.View.{extent};
-ghost use Rattle.machine.specs.Stop.{refusedRun};
 ghost use Rattle.machine.specs.Start.{paintOne, laidTable, Runnable, runLoaded};
-use super::Reason;
-use super::Run;
 use super::running::run_code;
 use files::Loaded;
 use numbers::Refusal;
+use stops::Run;
+use stops::refused;
 ghost use Rattle.machine.specs.Running.{answered, lentOf};
-
-// The record of a refusal: zeros in its other fields.
-pub(crate) fn refused(why: Refusal) -> Run
-    ensures { λ r. ⌜ r ≡ refusedRun why ⌝ }
-{
-    Run {
-        reason: Reason::Refused(why),
-        place: 0,
-        steps: 0,
-        out: 0,
-        taken: 0,
-    }
-}
 
 // A size rounded up to eight.
 fn extent_of(size: u16) -> u32

@@ -3,7 +3,6 @@ ghost use mathlib.Core.Path.{_≡_};
 ghost use lib.ListN.{length};
 ghost use Rattle.machine.specs.Turn.{held, Ready, Low, Narrow, turned, turnOf};
 use super::Progress;
-use super::Reason;
 use super::Turn;
 use super::lent::alloc;
 use super::lent::byte_of;
@@ -25,6 +24,7 @@ use super::temps::less;
 use super::temps::sub;
 use super::temps::value;
 use opcodes::Instr;
+use stops::Reason;
 
 pub(crate) fn step(
     i: Instr,

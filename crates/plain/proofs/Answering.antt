@@ -25,7 +25,7 @@ use Rattle.instrumenter.proofs.Answers as answers
 use Rattle.instrumenter.proofs.Answers.{Because, answered-because}
 use Rattle.instrumenter.proofs.Instrumenting.{instrumented-good}
 use Rattle.instrumenter.proofs.ReadsBack.{new-file-reads}
-use Rattle.machine.specs.Stop.{numberOf}
+use Rattle.stops.specs.Stop.{numberOf}
 use Rattle.machine.specs.State.{Given}
 use Rattle.machine.specs.Runs.{runs}
 use Rattle.machine.specs.Colors.{tableRule, firstTable}

@@ -7,8 +7,8 @@ use lib.Dec.{ltb}
 use Rattle.opcodes.specs.declared.Instr.{Instr}
 use Rattle.opcodes.specs.View.{View, view}
 use Rattle.coloring.specs.Class.{holds}
-use Rattle.machine.specs.declared.Reason.{Reason}
-use Rattle.machine.specs.Stop.{numberOf}
+use Rattle.stops.specs.declared.Reason.{Reason}
+use Rattle.stops.specs.Stop.{numberOf}
 use Rattle.machine.specs.State.{Rule, Given, State}
 use Rattle.machine.specs.Step.{Next, stop, next, perform, step}
 use Rattle.machine.proofs.Turns.{Halt, Forth, forth}

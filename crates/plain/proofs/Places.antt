@@ -15,8 +15,8 @@ use Rattle.files.specs.Program.{Program}
 use Rattle.opcodes.specs.View.{View, act, jump, jumpIf, store, check, view}
 use Rattle.safety.specs.Unsafe.{setOf}
 use Rattle.instrumenter.proofs.Guarded.{movedView, view-moved, view-check}
-use Rattle.machine.specs.Stop.{counts, placesIn, placeIn}
-use Rattle.machine.proofs.Places.{places-more}
+use Rattle.stops.specs.Stop.{counts, placesIn, placeIn}
+use Rattle.stops.proofs.Places.{places-more}
 use Rattle.plain.specs.Guards.{instrAt, Stands, Guards}
 use Rattle.coloring.specs.Color.{colorOfSet}
 use Rattle.opcodes.specs.Moved.{moved}

@@ -10,8 +10,8 @@ use mathlib.Core.Bool.{true}
 use lib.ListN.{length}
 use Rattle.files.specs.Program.{Program}
 use Rattle.layout.specs.Layout.{fits}
-use Rattle.machine.specs.declared.Reason.{Reason}
-use Rattle.machine.specs.Stop.{numberOf}
+use Rattle.stops.specs.declared.Reason.{Reason}
+use Rattle.stops.specs.Stop.{numberOf}
 use Rattle.machine.specs.State.{Given, State, startState}
 use Rattle.machine.specs.Step.{stop, next, step}
 use Rattle.machine.specs.Runs.{stopped, runs}

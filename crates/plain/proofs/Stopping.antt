@@ -18,7 +18,7 @@ use lib.Dec.{ltb}
 use borrow.Author.Tests.{ltb-true}
 use Rattle.opcodes.specs.declared.Instr.{Instr}
 use Rattle.opcodes.specs.View.{View, view}
-use Rattle.machine.specs.declared.Reason.{Reason}
+use Rattle.stops.specs.declared.Reason.{Reason}
 use Rattle.machine.specs.State.{Rule, Given, State, startState}
 use Rattle.machine.specs.Step.{Effect, stops, passes, completes, Next, stop, next, conclude, effect, lets, perform, step}
 use Rattle.machine.specs.Runs.{stopped, runFrom, turnsFor, runs}

@@ -20,8 +20,8 @@ use Rattle.memory.specs.Memory.{memorySize, colorAt}
 use Rattle.routines.specs.Accepted.{plainPieces, Accepted}
 use Rattle.instrumenter.specs.Instrumented.{instrumented}
 use Rattle.instrumenter.specs.Answer.{FileAnswer, file, instrument, roomHolding}
-use Rattle.machine.specs.declared.Reason.{Reason}
-use Rattle.machine.specs.Stop.{numberOf}
+use Rattle.stops.specs.declared.Reason.{Reason}
+use Rattle.stops.specs.Stop.{numberOf}
 use Rattle.machine.specs.State.{Rule, Given, State, startState}
 use Rattle.machine.specs.Step.{stop, next, step, lets}
 use Rattle.machine.specs.Runs.{Outcome, stopped, runs}

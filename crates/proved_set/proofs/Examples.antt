@@ -19,7 +19,7 @@ use Rattle.instrumenter.specs.Instrumented.{guarded, spanOf, newPlace, instrume
 use Rattle.instrumenter.specs.Answer.{instrument}
 use Rattle.memory.specs.Memory.{bytesOf, numberAt, put, fill, colorAt, everyByte}
 use Rattle.heap.specs.Heap.{walk, blockAt, putHeader, sound, walkFrom, takeBlock, firstFit, alloc, freeIn, free, emptyHeap}
-use Rattle.machine.specs.Stop.{placesIn}
+use Rattle.stops.specs.Stop.{placesIn}
 use Rattle.machine.specs.State.{blankMemory}
 use Rattle.machine.specs.Step.{step}
 use Rattle.machine.specs.Runs.{Outcome, runFrom, runs}

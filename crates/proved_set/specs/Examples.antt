@@ -19,7 +19,7 @@ use Rattle.layout.specs.Layout.{startOf, endOf, piecesOf}
 use Rattle.instrumenter.specs.Answer.{FileAnswer, file, instrument}
 use Rattle.memory.specs.Memory.{memorySize, tableSize, colorAt}
 use Rattle.heap.specs.Heap.{Walk, unsound, blocks, walk}
-use Rattle.machine.specs.Stop.{numberOf, placeOf}
+use Rattle.stops.specs.Stop.{fiveOf}
 use Rattle.machine.specs.Colors.{firstTable}
 use Rattle.machine.specs.Running.{Lent, Answer as Ran, runFile}
 
@@ -44,10 +44,6 @@ zeros = record { memory = replicate memorySize 0; table = replicate tableSize 0;
 -- the run of a version 1 file, instrumented, with no input and a room of 1,000
 abbrev pub runOf : (bytes : List ℕ) (limit : ℕ) → Ran
 runOf bytes limit = runFile (versionTwo bytes) [] limit zeros
-
--- "reason, place, steps, numbers out, numbers taken"
-abbrev pub fiveOf : Ran → List ℕ
-fiveOf a = numberOf (a .run .reason) ∷ placeOf (a .run) ∷ a .run .steps ∷ a .run .out ∷ a .run .taken ∷ []
 
 abbrev pub bytesAt : Ran → (from n : ℕ) → List ℕ
 bytesAt a from n = take n (drop from (a .lent .memory))
@@ -179,14 +175,14 @@ rows =
     ∷ row 2 (places (programIn (readFile 2 (versionTwo A)))) (8 ∷ 16 ∷ 24 ∷ 32 ∷ 40 ∷ [])
     ∷ row 2 (colorsAt (programIn (readFile 2 (versionTwo A))) (8 ∷ 16 ∷ 24 ∷ 32 ∷ [])) (0 ∷ 0 ∷ 2 ∷ 0 ∷ [])
     ∷ row 3
-    (let a = runOf A 1000000 in fiveOf a ++ bytesAt a 24 8)
+    (let a = runOf A 1000000 in fiveOf (a .run) ++ bytesAt a 24 8)
     (36 ∷ 2 ∷ 8 ∷ 0 ∷ 0 ∷ 7 ∷ 0 ∷ 0 ∷ 0 ∷ 0 ∷ 0 ∷ 0 ∷ 7 ∷ [])
-    ∷ row 4 (fiveOf (runOf A 8)) (31 ∷ 2 ∷ 8 ∷ 0 ∷ 0 ∷ [])
+    ∷ row 4 (fiveOf (runOf A 8 .run)) (31 ∷ 2 ∷ 8 ∷ 0 ∷ 0 ∷ [])
     ∷ row 5
-    (let a = runOf (write32At 28) 100 in fiveOf a ++ bytesAt a 28 4)
+    (let a = runOf (write32At 28) 100 in fiveOf (a .run) ++ bytesAt a 28 4)
     (0 ∷ 3 ∷ 3 ∷ 0 ∷ 0 ∷ 1 ∷ 2 ∷ 3 ∷ 4 ∷ [])
     ∷ row 5
-    (let a = runOf (write32At 30) 100 in fiveOf a ++ bytesAt a 28 8)
+    (let a = runOf (write32At 30) 100 in fiveOf (a .run) ++ bytesAt a 28 8)
     (36 ∷ 2 ∷ 2 ∷ 0 ∷ 0 ∷ 0 ∷ 0 ∷ 0 ∷ 0 ∷ 0 ∷ 0 ∷ 0 ∷ 0 ∷ [])
     ∷ row 6 (map (colorIn threeSets) (0 ∷ 1 ∷ 2 ∷ 3 ∷ 4 ∷ [])) (2 ∷ 2 ∷ 2 ∷ 3 ∷ 3 ∷ [])
     ∷ row 7 (valueOf (readNumber (0xAC ∷ 0x02 ∷ []) 0)) (300 ∷ 2 ∷ [])
@@ -199,8 +195,8 @@ rows =
     ∷ row 10 (heapAfter 3 2) (28672 ∷ 28656 ∷ 0 ∷ 0 ∷ [])
     ∷ row 11 (oneIf (safeAim (likeA []) (inGlobal 0 4 four))) (1 ∷ [])
     ∷ row 11 (oneIf (safeAim (likeA []) (inGlobal 0 5 four))) (0 ∷ [])
-    ∷ row 12 (let a = runOf (load32At 57340) 100 in fiveOf a ++ numbersOut a) (0 ∷ 4 ∷ 4 ∷ 1 ∷ 0 ∷ 0 ∷ [])
-    ∷ row 12 (fiveOf (runOf (load32At 57341) 100)) (34 ∷ 2 ∷ 2 ∷ 0 ∷ 0 ∷ [])
+    ∷ row 12 (let a = runOf (load32At 57340) 100 in fiveOf (a .run) ++ numbersOut a) (0 ∷ 4 ∷ 4 ∷ 1 ∷ 0 ∷ 0 ∷ [])
+    ∷ row 12 (fiveOf (runOf (load32At 57341) 100 .run)) (34 ∷ 2 ∷ 2 ∷ 0 ∷ 0 ∷ [])
     ∷ []
 
 -- each row's computed side is what 01 states

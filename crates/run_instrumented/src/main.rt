@@ -10,9 +10,9 @@ use inputs::Inputs;
 use inputs::read_inputs;
 use libc::STDERR_FILENO;
 use libc::STDIN_FILENO;
-use machine::Run;
 use printing::print_line;
 use printing::print_outputs;
+use stops::Run;
 
 // One byte more than the longest file, so that a longer one is seen to be too long.
 const LONGEST: usize = 32769;
@@ -40,7 +40,7 @@ fn run_file(version: u32, limit: u32, file: &[u8], input: &[u32], room: &mut [u3
 
 fn run_and_print(version: u32, limit: u32, file: &[u8], input: &[u32], room: &mut [u32]) {
     let run = run_file(version, limit, file, input, room);
-    let five = controller::numbers_of(run);
+    let five = stops::numbers_of(run);
     print_line(five[0], five[1], five[2], five[3], five[4]);
     print_outputs(room, run.out);
 }

@@ -38,7 +38,7 @@ fn run_routine(file: &[u8]) {
     let mut table = [0u8; 7168];
     let mut room = [0u32; 1000];
     let run = controller::control(file, &none, &mut memory, &mut table, &mut room, 1000000);
-    let five = controller::numbers_of(run);
+    let five = stops::numbers_of(run);
     print_line(five[0], five[1], five[2], five[3], five[4]);
 }
 

@@ -5,7 +5,7 @@ use mathlib.Core.Path.{_≡_, sym, _∙_, ap}
 use mathlib.Core.List.{List}
 use denote.Ref.{RefT}
 use Rattle.reader.specs.declared.Reader.{Reader}
-use Rattle.machine.specs.declared.Run.{Run}
+use Rattle.stops.specs.declared.Run.{Run}
 use Rattle.machine.specs.Running.{Lent, Answer, lentOf, answered}
 use Rattle.unique.specs.Once.{Once}
 use Rattle.unique.specs.Once.{numbers-read-number, numbers-number-width, numbers-write-number}
@@ -20,8 +20,9 @@ use Rattle.unique.specs.Once.{layout-lay-out}
 use Rattle.unique.specs.Once.{memory-fill, memory-load8, memory-load32, memory-number-at, memory-store8, memory-store32, memory-check8, memory-check32, memory-paint, memory-are-exact}
 use Rattle.unique.specs.Once.{heap-start, heap-alloc, heap-free}
 use Rattle.unique.specs.Once.{instrumenter-instrument}
+use Rattle.unique.specs.Once.{stops-refused, stops-numbers-of, stops-place-of, stops-recorded}
 use Rattle.unique.specs.Once.{machine-run-file}
-use Rattle.unique.specs.Once.{controller-control, controller-numbers-of, controller-toltjebrim-control}
+use Rattle.unique.specs.Once.{controller-control, controller-toltjebrim-control}
 
 -- ---- the law, and its forms for several values
 
@@ -181,6 +182,20 @@ heap-free-once memory table address = triple-once
 pub instrumenter-instrument-once : instrumenter-instrument
 instrumenter-instrument-once file room = pair-once
 
+-- ---- stops
+
+pub stops-refused-once : stops-refused
+stops-refused-once why = once
+
+pub stops-numbers-of-once : stops-numbers-of
+stops-numbers-of-once run = once
+
+pub stops-place-of-once : stops-place-of
+stops-place-of-once code lines at = once
+
+pub stops-recorded-once : stops-recorded
+stops-recorded-once code lines at steps out taken reason = once
+
 -- ---- machine
 
 pub machine-run-file-once : machine-run-file
@@ -190,9 +205,6 @@ machine-run-file-once file input memory table room limit = run-once
 
 pub controller-control-once : controller-control
 controller-control-once file input memory table room limit = run-once
-
-pub controller-numbers-of-once : controller-numbers-of
-controller-numbers-of-once run = once
 
 pub controller-toltjebrim-control-once : controller-toltjebrim-control
 controller-toltjebrim-control-once file input memory table room limit numbers = lent-once

@@ -8,6 +8,7 @@ use mathlib.Core.Bool.{Bool}
 use lib.ListN.{length, replicate}
 use denote.Ref.{RefT, now}
 use Rattle.numbers.specs.declared.Cursor.{Cursor}
+use Rattle.numbers.specs.declared.Refusal.{Refusal}
 use Rattle.numbers.specs.declared.Written.{Written}
 use Rattle.numbers.specs.Number.{readNumber, width, writtenAt, roomAfter}
 use Rattle.reader.specs.declared.Reader.{Reader}
@@ -18,6 +19,7 @@ use Rattle.opcodes.specs.Table.{rowOf, make, partsOf}
 use Rattle.instructions.specs.Making.{made}
 use Rattle.opcodes.specs.Ranges.{hasOpcode, within, isColor, present, scopeOver, allowed}
 use Rattle.opcodes.specs.View.{view}
+use Rattle.files.specs.declared.Line.{Line}
 use Rattle.files.specs.declared.Loaded.{Loaded}
 use Rattle.files.specs.declared.Written as FileWritten
 use Rattle.files.specs.Reading.{readFile}
@@ -33,9 +35,12 @@ use Rattle.heap.specs.declared.Release.{Release}
 use Rattle.heap.specs.Lent.{allocated, released, started}
 use Rattle.instrumenter.specs.declared.Instrumented.{Instrumented}
 use Rattle.instrumenter.specs.Answer.{instrument, told, roomHolding}
-use Rattle.machine.specs.declared.Run.{Run}
+use Rattle.stops.specs.declared.Reason.{Reason}
+use Rattle.stops.specs.declared.Run.{Run}
+use Rattle.stops.specs.Stop.{refusedRun, fiveOf, placeIn, recordOf}
+use Rattle.stops.specs.Held.{codeOf}
 use Rattle.machine.specs.Running.{lentOf, answered, runFile}
-use Rattle.controller.specs.Control.{control, fiveOf}
+use Rattle.controller.specs.Control.{control}
 
 -- two answers that satisfy a promise are equal
 abbrev pub Once : {A : Type 0} → (A → Type 0) → Type 0
@@ -198,6 +203,22 @@ instrumenter-instrument =
     → Once {A = Instrumented × List ℕ}
     (λ (r, room′). (r ≡ told (instrument file (length room))) × (room′ ≡ roomHolding room (instrument file (length room))))
 
+-- ---- stops
+
+abbrev pub stops-refused : Type 0
+stops-refused = (why : Refusal) → Once (λ r. r ≡ refusedRun why)
+
+abbrev pub stops-numbers-of : Type 0
+stops-numbers-of = (run : Run) → Once (λ r. r ≡ fiveOf run)
+
+abbrev pub stops-place-of : Type 0
+stops-place-of = (code : List Line) (lines at : ℕ) → Once (λ r. r ≡ placeIn (codeOf code lines) at)
+
+abbrev pub stops-recorded : Type 0
+stops-recorded =
+    (code : List Line) (lines at steps out taken : ℕ) (reason : Reason)
+    → Once (λ r. r ≡ recordOf (codeOf code lines) at steps out taken reason)
+
 -- ---- machine
 
 abbrev pub machine-run-file : Type 0
@@ -213,9 +234,6 @@ controller-control =
     (file input memory table room : List ℕ) (limit : ℕ)
     → Once {A = Run × List ℕ × List ℕ × List ℕ}
     (λ (r, memory′, table′, room′). answered r (lentOf memory′ table′ room′) ≡ control file input limit (lentOf memory table room))
-
-abbrev pub controller-numbers-of : Type 0
-controller-numbers-of = (run : Run) → Once (λ r. r ≡ fiveOf run)
 
 abbrev pub controller-toltjebrim-control : Type 0
 controller-toltjebrim-control =

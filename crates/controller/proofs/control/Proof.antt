@@ -1,7 +1,7 @@
 use borrow.Author.Needs.{needs}
 use mathlib.Core.Path.{sym, ap, _∙_}
 use denote.Ref.{now}
-use Rattle.machine.specs.declared.Run.{Run}
+use Rattle.stops.specs.declared.Run.{Run}
 use Rattle.controller.proofs.Controlled.{wrong-memory, wrong-table}
 use Rattle.controller.proofs.control.Statement.{statement}
 use Rattle.controller.proofs.control.Tie as tie

@@ -2,8 +2,8 @@ use borrow.Author.Needs.{needs}
 use mathlib.Core.Path.{sym, ap, _∙_}
 use denote.Ref.{now}
 use lib.Seq.{length-take-le}
-use Rattle.machine.specs.declared.Run.{Run}
-use Rattle.machine.specs.Stop.{refusedRun}
+use Rattle.stops.specs.declared.Run.{Run}
+use Rattle.stops.specs.Stop.{refusedRun}
 use Rattle.controller.specs.Inside.{whyNot}
 use Rattle.controller.proofs.Controlled.{refused-so, written-so}
 use Rattle.controller.proofs.instrument_and_run.Statement.{statement}

@@ -1,7 +1,7 @@
 use borrow.Author.Needs.{needs}
 use mathlib.Core.Path.{ap, _∙_}
 use Rattle.machine.specs.Running.{Answer}
-use Rattle.controller.specs.Control.{fiveOf}
+use Rattle.stops.specs.Stop.{fiveOf}
 use Rattle.controller.proofs.toltjebrim_control.Statement.{statement}
 use Rattle.controller.proofs.toltjebrim_control.Tie as tie
 

@@ -8,9 +8,10 @@ use lib.ListN.{length}
 use Rattle.memory.specs.Memory.{memorySize, tableSize}
 use Rattle.machine.specs.declared.Turn.{Turn}
 use Rattle.files.specs.declared.Line.{Line}
-use Rattle.machine.specs.declared.Run.{Run}
-use Rattle.machine.specs.Turn.{codeOf, Held, held, runHeld, turned, turnOf}
-use Rattle.machine.proofs.Places.{code-length, code-at}
+use Rattle.stops.specs.declared.Run.{Run}
+use Rattle.stops.specs.Held.{codeOf}
+use Rattle.machine.specs.Turn.{Held, held, runHeld, turned, turnOf}
+use Rattle.stops.proofs.Places.{code-length, code-at}
 use Rattle.machine.proofs.Temporaries.{narrow-held}
 use Rattle.machine.proofs.Going.{Course, Going, weightOf, AfterTurn, after-turn, stops-past, stops-limit, starts-off}
 use Rattle.machine.proofs.running.run_code.Statement.{statement}
@@ -95,7 +96,7 @@ loop-holds c = let s = c .before .before .before .before in
     (starts-off (codeOf (s .args .t1) (s .args .lines)) (s .args .t3) (s .args .t4) (now (s .args .input)) (s .args .limit) (now (s .args .memory)) (now (s .args .table)) (now (s .args .room)) (s .pre .2) (s .pre .3), refl)
 
 recorded-requires : tie.Need-recorded-requires Inv-loop μ-loop
-recorded-requires c κs = c .before .before .before .before .before .before .pre .0
+recorded-requires c κs = search needs
 
 same-length : tie.Need-same-length Inv-loop μ-loop
 same-length c = c .before .before .loop .inv .0 .memory ∙ sym (c .before .before .before .before .before .before .before .pre .2)
@@ -113,7 +114,7 @@ returns c = let s = c .before .before .before .before .before .before .before in
     ∙ stops-past (course s) (heldAt l) (l .loop .now) (l .loop .inv .0) (omega (arith, code-is s, c .before .if1 .taken))
 
 recorded-requires-2 : tie.Need-recorded-requires-2 Inv-loop μ-loop
-recorded-requires-2 c κs = c .before .before .before .before .before .before .before .pre .0
+recorded-requires-2 c κs = search needs
 
 same-length-4 : tie.Need-same-length-4 Inv-loop μ-loop
 same-length-4 c = c .before .before .before .loop .inv .0 .memory ∙ sym (c .before .before .before .before .before .before .before .before .pre .2)
@@ -162,7 +163,7 @@ enum-known-turn : tie.Need-enum-known-turn Inv-loop μ-loop
 enum-known-turn c = search needs
 
 recorded-requires-3 : tie.Need-recorded-requires-3 Inv-loop μ-loop
-recorded-requires-3 c κs = c .before .before .before .before .before .before .before .before .before .before .before .before .before .before .before .before .before .before .before .before .before .before .before .before .before .pre .0
+recorded-requires-3 c κs = search needs
 
 same-length-7 : tie.Need-same-length-7 Inv-loop μ-loop
 same-length-7 c = memory-long (c .before .before .before .before .before .before .before .before .before .before .before) ∙ sym (c .before .before .before .before .before .before .before .before .before .before .before .before .before .before .before .before .before .before .before .before .before .before .before .before .before .before .pre .2)

@@ -5,8 +5,8 @@ use lib.ListN.{take}
 use Rattle.numbers.specs.declared.Refusal.{Refusal}
 use Rattle.opcodes.specs.declared.Instr.{Instr}
 use Rattle.opcodes.specs.View.{View, act, jump, jumpIf, store, check, view}
-use Rattle.machine.specs.declared.Reason.{Reason}
-use Rattle.machine.specs.declared.Run.{Run}
+use Rattle.stops.specs.declared.Reason.{Reason}
+use Rattle.stops.specs.declared.Run.{Run}
 
 -- "Stops: 0 END; 30 past the end; 31 limit; 32 no more input; 33 no room for output; 34 read outside
 -- memory; 35 store outside memory; 36 forbidden store; 37 bad FREE; 38 unsound heap"; a refusal has
@@ -41,6 +41,10 @@ placeFor (Reason.Refused q) place = q .place
 abbrev pub placeOf : Run → ℕ
 placeOf run = placeFor (run .reason) (run .place)
 
+-- "reason, place, steps, numbers out, numbers taken"
+abbrev pub fiveOf : Run → List ℕ
+fiveOf run = numberOf (run .reason) ∷ placeOf run ∷ run .steps ∷ run .out ∷ run .taken ∷ []
+
 -- "A refusal .. has zeros in its other fields"
 abbrev pub refusedRun : Refusal → Run
 refusedRun q = record { reason = Reason.Refused q; place = 0; steps = 0; out = 0; taken = 0 }
@@ -60,3 +64,8 @@ placesIn (i ∷ code) = counts (view i) + placesIn code
 -- "A place counts the instructions before it that are not checks"
 abbrev pub placeIn : (code : List Instr) (at : ℕ) → ℕ
 placeIn code at = placesIn (take at code)
+
+-- the record of a stop before instruction `at`
+abbrev pub recordOf : (code : List Instr) (at steps out taken : ℕ) → Reason → Run
+recordOf code at steps out taken reason =
+    record { reason = reason; place = placeIn code at; steps = steps; out = out; taken = taken }

@@ -13,8 +13,8 @@ use Rattle.opcodes.specs.declared.Instr.{Instr}
 use Rattle.files.specs.declared.Line.{Line}
 use Rattle.opcodes.specs.View.{View, act, jump, jumpIf, store, check, view}
 use Rattle.opcodes.proofs.Instr.{the-type}
-use Rattle.machine.specs.Stop.{counts, placesIn, placeIn}
-use Rattle.machine.specs.Turn.{codeOf}
+use Rattle.stops.specs.Stop.{counts, placesIn, placeIn}
+use Rattle.stops.specs.Held.{codeOf}
 
 -- the opcodes that are no checks
 abbrev plain : List ℕ
@@ -91,6 +91,18 @@ take-all (suc m) (suc n) (x ∷ xs) h = ap (λ r. x ∷ r) (take-all m n xs (le-
 
 pub place-end : (code : List Line) (lines at : ℕ) {place : ℕ} → lines ≤ at → place ≡ placesIn (instrs (take lines code)) → place ≡ placeIn (codeOf code lines) at
 place-end code lines at h e = e ∙ ap placesIn (sym (take-instrs at (take lines code) ∙ ap instrs (take-all at lines code h)))
+
+take-whole : (m : ℕ) (l : List Line) → length l ≤ m → take m l ≡ l
+take-whole m [] h = take-none m
+take-whole zero (x ∷ xs) h = absurd (not-suc-le-zero h)
+take-whole (suc m) (x ∷ xs) h = ap (λ r. x ∷ r) (take-whole m xs (le-of-suc-le-suc h))
+
+pub place-full : (code : List Line) (lines at i : ℕ) {place : ℕ} → length code ≤ i → i ≤ lines → i ≤ at → place ≡ placesIn (instrs (take i code))
+    → place ≡ placeIn (codeOf code lines) at
+place-full code lines at i long h k e =
+    let all : take lines code ≡ code = take-whole lines code (omega arith) in
+    e ∙ ap (λ l. placesIn (instrs l)) (take-whole i code long)
+    ∙ ap placesIn (sym (take-instrs at (take lines code) ∙ ap (λ l. instrs (take at l)) all ∙ ap instrs (take-whole at code (omega arith))))
 
 -- ---- the instructions that are held
 

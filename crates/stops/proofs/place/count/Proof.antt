@@ -1,11 +1,11 @@
-use Rattle.machine.proofs.Places.{counted}
-use Rattle.machine.specs.Stop.{counts}
+use Rattle.stops.proofs.Places.{counted}
+use Rattle.stops.specs.Stop.{counts}
 use Rattle.opcodes.specs.declared.Instr.{Instr}
 use Rattle.opcodes.specs.View.{view}
 use mathlib.Core.Path.{sym, ap}
 use borrow.Author.Needs.{needs}
-use Rattle.machine.proofs.place.count.Statement.{statement}
-use Rattle.machine.proofs.place.count.Tie as tie
+use Rattle.stops.proofs.place.count.Statement.{statement}
+use Rattle.stops.proofs.place.count.Tie as tie
 
 enum-told : tie.Need-enum-told
 enum-told c = search needs

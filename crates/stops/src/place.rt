@@ -1,10 +1,8 @@
 // The record of a stop: a place counts the instructions before it that are not checks.
 ghost use mathlib.Core.Path.{_≡_};
-ghost use Prim.Native.Nat.{_≤_};
 ghost use Rattle.opcodes.specs.View.{view};
-ghost use Rattle.machine.specs.Stop.{counts, placeIn};
-ghost use Rattle.machine.specs.Turn.{codeOf, recordOf};
-use super::Progress;
+ghost use Rattle.stops.specs.Stop.{counts, placeIn, recordOf};
+ghost use Rattle.stops.specs.Held.{codeOf};
 use super::Reason;
 use super::Run;
 use files::Line;
@@ -23,14 +21,13 @@ fn count(i: Instr) -> usize
     }
 }
 
-// The place of an instruction: counted once, at the stop.
-fn place_of(code: [Line; 2000], lines: usize, at: usize) -> usize
-    requires { ⌜ lines ≤ 2000 ⌝ }
+// The place of an instruction: counted once, at the stop. Of the array the first `lines` are the code.
+pub fn place_of(code: [Line; 2000], lines: usize, at: usize) -> usize
     ensures { λ r. ⌜ r ≡ placeIn (codeOf code lines) at ⌝ }
 {
     let mut place = 0;
     let mut i = 0;
-    while i < lines && i < at {
+    while i < 2000 && i < lines && i < at {
         let line = code[i];
         let instr = line.instr;
         place += count(instr);
@@ -39,16 +36,23 @@ fn place_of(code: [Line; 2000], lines: usize, at: usize) -> usize
     place
 }
 
-// The record of a stop.
-pub(crate) fn recorded(code: [Line; 2000], lines: usize, now: Progress, reason: Reason) -> Run
-    requires { ⌜ lines ≤ 2000 ⌝ }
-    ensures { λ r. ⌜ r ≡ recordOf (codeOf code lines) now reason ⌝ }
+// The record of a stop before the instruction `at`.
+pub fn recorded(
+    code: [Line; 2000],
+    lines: usize,
+    at: usize,
+    steps: u32,
+    out: usize,
+    taken: usize,
+    reason: Reason,
+) -> Run
+    ensures { λ r. ⌜ r ≡ recordOf (codeOf code lines) at steps out taken reason ⌝ }
 {
     Run {
         reason,
-        place: place_of(code, lines, now.at),
-        steps: now.steps,
-        out: now.out,
-        taken: now.taken,
+        place: place_of(code, lines, at),
+        steps,
+        out,
+        taken,
     }
 }
