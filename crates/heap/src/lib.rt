@@ -6,10 +6,8 @@ pub mod freeing;
 pub mod headers;
 pub mod making;
 
-// The length of memory and of the table.
+// The length of memory.
 const MEMORY: usize = 57344;
-
-const TABLE: usize = 7168;
 
 // The first header, and the end slot.
 const HEAP: usize = 28672;
@@ -39,8 +37,11 @@ pub enum Release {
     Freed,
 }
 
-// What a walk over all headers finds on its way: a header, 0 where there is none.
+// What a walk over all headers finds.
 enum Search {
+    // A header is unsound.
     Unsound,
+    Nothing,
+    // Where a block starts.
     Found(usize),
 }
