@@ -12,7 +12,6 @@ use mathlib.Core.List.{List, [], _∷_, _++_}
 use mathlib.Core.Bool.{Bool, true, false}
 use lib.ListN.{length, take, drop, length-append}
 use lib.Seq.{take-at}
-use borrow.Author.Tests.{eq-eqb, ne-eqb}
 use Rattle.numbers.specs.declared.Refusal.{Refusal}
 use Rattle.files.specs.Program.{Program}
 use Rattle.files.specs.Reading.{Reading, whole, refusal, readFile}
@@ -30,6 +29,7 @@ use Rattle.instrumenter.proofs.ReadsBack.{new-file-reads, fits-again, wrote}
 use Rattle.machine.specs.State.{Given}
 use Rattle.machine.specs.Runs.{runs}
 use Rattle.machine.specs.Colors.{tableRule, firstTable}
+use Rattle.memory.proofs.Exact.{is-exact}
 use Rattle.machine.specs.Running.{Lent, Answer, refuse, runProgram, runReading, exactLengths, runFile}
 use Rattle.plain.specs.Plain.{plainRun}
 use Rattle.plain.specs.Demands.{NotAccepted, Refuses, Answered, Agree}
@@ -133,19 +133,14 @@ of memory table room = record { memory = memory; table = table; room = room }
 
 module _ (bytes input : List ℕ) (limit : ℕ) (memory table room : List ℕ) where
   -- "11 | memory or table not of its exact length"
-  pub wrong-memory : (length memory ≡ 57344 → ⊥)
+  pub wrong-lengths : exactLengths (of memory table room) ≡ false
       → control bytes input limit (of memory table room) ≡ refuse (of memory table room) (refusal 11 0)
   unfolding control
-  wrong-memory h = simp (ne-eqb (length memory) 57344 h, exactLengths, control)
-
-  pub wrong-table : length memory ≡ 57344 → (length table ≡ 7168 → ⊥)
-      → control bytes input limit (of memory table room) ≡ refuse (of memory table room) (refusal 11 0)
-  unfolding control
-  wrong-table m h = simp (eq-eqb (length memory) 57344 m, ne-eqb (length table) 7168 h, exactLengths, control)
+  wrong-lengths e = simp (e, control)
 
   module _ (m : length memory ≡ 57344) (t : length table ≡ 7168) (file : List ℕ) (long : length file ≡ 32768) where
     exact-lengths : exactLengths (of memory table room) ≡ true
-    exact-lengths = simp (eq-eqb (length memory) 57344 m, exactLengths) (eq-eqb (length table) 7168 t)
+    exact-lengths = is-exact memory table m t
 
     answer : Controls bytes input limit (of memory table room) (instrument bytes (length file))
     answer = rw long (controls bytes input limit (of memory table room) exact-lengths)

@@ -4,6 +4,7 @@
 use instrumenter::Instrumented;
 use instrumenter::instrument;
 use machine::run_file;
+use memory::lengths::are_exact;
 use numbers::Refusal;
 use stops::Run;
 use stops::numbers_of;
@@ -71,10 +72,7 @@ pub fn control(
         number: 11,
         place: 0,
     };
-    if memory.len() != 57344 {
-        return refused(wrong);
-    }
-    if table.len() != 7168 {
+    if !are_exact(memory, table) {
         return refused(wrong);
     }
     instrument_and_run(file, input, memory, table, room, limit)

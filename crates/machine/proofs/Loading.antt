@@ -12,7 +12,7 @@ use native.Mathlib.Omega.{arith}
 use native.Mathlib.Nat.{not-suc-le-zero}
 use lib.ListN.{length, getD, List·getD-eq-default}
 use lib.Dec.{ltb}
-use borrow.Author.Tests.{leb-true, ltb-true, ltb-false, eq-eqb, ne-eqb, le-leb, lt-leb}
+use borrow.Author.Tests.{leb-true, ltb-true, ltb-false, eq-eqb, le-leb, lt-leb}
 use Rattle.numbers.specs.declared.Refusal.{Refusal}
 use Rattle.opcodes.specs.declared.Instr.{Instr}
 use Rattle.files.specs.declared.Object.{Object}
@@ -41,7 +41,7 @@ use Rattle.stops.specs.Held.{codeOf}
 use Rattle.machine.specs.State.{Given, State, blankMemory, startState}
 use Rattle.machine.specs.Runs.{runFrom, runs}
 use Rattle.machine.specs.Colors.{tableAllows, colorOfObject, tableRule, firstTable}
-use Rattle.machine.specs.Running.{Lent, Answer, refuse, leaves, runProgram, runReading, runFile, lentOf, answered}
+use Rattle.machine.specs.Running.{Lent, Answer, refuse, leaves, runProgram, runReading, exactLengths, runFile, lentOf, answered}
 use Rattle.machine.specs.Turn.{heldRule, Low, AllNarrow, runHeld}
 use Rattle.machine.specs.Start.{piecesHeld, laidTable, Runnable, runLoaded}
 use Rattle.machine.proofs.Starting.{noObject, start-is, laid-first}
@@ -156,16 +156,11 @@ module _ (p : Program) (good : Good 2 p) (input : List ℕ) (limit : ℕ) (lent 
 -- ---- the refusals, and a whole file
 
 module _ (file input : List ℕ) (limit : ℕ) (lent : Lent) where
-  pub wrong-memory : {run : Run} → (length (lent .memory) ≡ memorySize → ⊥) → run ≡ refusedRun (refusal 11 0) → answered run lent ≡ runFile file input limit lent
+  pub wrong-lengths : {run : Run} → exactLengths lent ≡ false → run ≡ refusedRun (refusal 11 0) → answered run lent ≡ runFile file input limit lent
   unfolding runFile
-  wrong-memory other e = ap (λ x. answered x lent) e ∙ rw (ne-eqb (length (lent .memory)) memorySize other, runFile) refl
+  wrong-lengths other e = ap (λ x. answered x lent) e ∙ rw (other, runFile) refl
 
   module _ (memory : length (lent .memory) ≡ memorySize) where
-    pub wrong-table : {run : Run} → (length (lent .table) ≡ tableSize → ⊥) → run ≡ refusedRun (refusal 11 0) → answered run lent ≡ runFile file input limit lent
-    unfolding runFile
-    wrong-table other e =
-        ap (λ x. answered x lent) e ∙ rw (eq-eqb (length (lent .memory)) memorySize memory, ne-eqb (length (lent .table)) tableSize other, runFile) refl
-
     module _ (table : length (lent .table) ≡ tableSize) where
       exact : runReading input limit lent (readFile 2 file) ≡ runFile file input limit lent
       unfolding runFile

@@ -3,12 +3,11 @@ use Prim.Native.Nat.{ℕ, _+_}
 use mathlib.Core.List.{List, _++_}
 use mathlib.Core.Bool.{Bool, true, false}
 use lib.ListN.{length, drop}
-use lib.Dec.{eqb}
 use Rattle.numbers.specs.declared.Refusal.{Refusal}
 use Rattle.files.specs.Program.{Program}
 use Rattle.files.specs.Reading.{Reading, whole, refusal, readFile}
 use Rattle.layout.specs.Layout.{piecesOf, fits}
-use Rattle.memory.specs.Memory.{memorySize, tableSize}
+use Rattle.memory.specs.Memory.{exact}
 use Rattle.stops.specs.declared.Run.{Run}
 use Rattle.stops.specs.Stop.{refusedRun}
 use Rattle.machine.specs.Runs.{Outcome, runs}
@@ -56,8 +55,7 @@ runReading input limit lent (Reading.refused q) = refuse lent q
 
 -- "11 | memory or table not of its exact length | 0"; "11 first (running only)"
 abbrev pub exactLengths : Lent → Bool
-exactLengths lent =
-    elim (eqb (length (lent .memory)) memorySize) [ true ↦ eqb (length (lent .table)) tableSize | false ↦ false ]
+exactLengths lent = exact (lent .memory) (lent .table)
 
 unfoldable pub runFile : (file input : List ℕ) (limit : ℕ) → Lent → Answer
 runFile file input limit lent =

@@ -2,6 +2,7 @@
 ghost use mathlib.Core.Path.{_≡_};
 ghost use Rattle.machine.specs.Running.{runFile, answered, lentOf};
 use files::Outcome;
+use memory::lengths::are_exact;
 use numbers::Refusal;
 use stops::Reason;
 use stops::Run;
@@ -42,13 +43,7 @@ pub fn run_file(
 ) -> Run
     ensures { λ r. ⌜ answered r (lentOf (now (memory .exit)) (now (table .exit)) (now (room .exit))) ≡ runFile (now (file .entry)) (now (input .entry)) limit (lentOf (now (memory .entry)) (now (table .entry)) (now (room .entry))) ⌝ }
 {
-    if memory.len() != 57344 {
-        return refused(Refusal {
-            number: 11,
-            place: 0,
-        });
-    }
-    if table.len() != 7168 {
+    if !are_exact(memory, table) {
         return refused(Refusal {
             number: 11,
             place: 0,
