@@ -28,7 +28,8 @@ use Rattle.instrumenter.proofs.Answers.{Because, answered-because}
 use Rattle.instrumenter.proofs.ReadsBack.{new-file-reads, fits-again, wrote}
 use Rattle.machine.specs.State.{Given}
 use Rattle.machine.specs.Runs.{runs}
-use Rattle.machine.specs.Colors.{tableRule, firstTable}
+use Rattle.start.specs.First.{firstTable}
+use Rattle.machine.specs.Colors.{tableRule}
 use Rattle.memory.proofs.Exact.{is-exact}
 use Rattle.machine.specs.Running.{Lent, Answer, refuse, runProgram, runReading, exactLengths, runFile}
 use Rattle.plain.specs.Plain.{plainRun}

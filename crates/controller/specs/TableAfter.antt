@@ -7,7 +7,8 @@ use Rattle.coloring.specs.Colored.{colorIn}
 use Rattle.instrumenter.specs.Instrumented.{instrumented}
 use Rattle.machine.specs.State.{Given}
 use Rattle.machine.specs.Runs.{runs}
-use Rattle.machine.specs.Colors.{tableRule, firstTable}
+use Rattle.start.specs.First.{firstTable}
+use Rattle.machine.specs.Colors.{tableRule}
 
 unfoldable pub tableAfter : Program → Given → List ℕ
 tableAfter p given =

@@ -2,7 +2,6 @@
 ghost use mathlib.Core.Path.{_≡_};
 ghost use Prim.Native.Nat.{_+_, _≤_};
 ghost use lib.ListN.{length};
-ghost use Rattle.opcodes.specs.View.{extent};
 ghost use Rattle.memory.specs.Memory.{memorySize, tableSize, paint};
 ghost use Rattle.heap.specs.Heap.{Made, endSlot, blockAt, walk, handOut, takeBlock, paintMade};
 ghost use Rattle.heap.specs.Lent.{allocated};
@@ -19,14 +18,7 @@ use crate::headers::size_at;
 use memory::bytes::fill;
 use memory::colors::paint;
 use memory::lengths::are_exact;
-
-// A size rounded up to eight.
-fn extent_of(size: u32) -> usize
-    requires { ⌜ size ≤ 4096 ⌝ }
-    ensures { λ r. ⌜ r ≡ extent size ⌝ }
-{
-    (size as usize + 7) / 8 * 8
-}
+use opcodes::extent::extent_of;
 
 // The first fit so far: what was found before, else this block where it is free and holds the size.
 fn first_of(found: Search, want: usize, header: usize, size: usize, mark: u32) -> Search

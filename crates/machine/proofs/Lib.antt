@@ -7,7 +7,6 @@
 --   Instructions     definition's step leads
 --   Turns, Going     the run loop: what is left to run from here is the answer of the whole run; a turn
 --                    makes the weight fall, and a stop's record is the definition's
---   Starting         the table that is painted object by object is the first table
 --   Agreeing         the rule over what is held asks the table's rule nothing that it answers otherwise
 --   Temporaries      each temporary that an accepted file's code names is one of the 16
 --   Loading          from what the reader holds to the run of the program; the refusals
@@ -23,7 +22,6 @@ pub mod Landing
 pub mod Instructions
 pub mod Turns
 pub mod Going
-pub mod Starting
 pub mod Agreeing
 pub mod Temporaries
 pub mod Loading

@@ -28,23 +28,24 @@ use Rattle.files.proofs.Filled.{getD-filled, getD-filled-map, lines-filled}
 use Rattle.files.proofs.RoundTrip.{Good, good-read, whole-not-refused}
 use Rattle.layout.specs.declared.Layout.{Layout}
 use Rattle.layout.specs.Layout.{Piece, piecesOf, startOf, endOf, fits}
-use Rattle.layout.specs.Arrays.{layoutOf}
-use Rattle.layout.proofs.Pieces.{pieces-held}
-use Rattle.layout.proofs.Places.{start-low}
+use Rattle.layout.specs.Arrays.{piecesIn, layoutOf}
 use Rattle.memory.specs.Memory.{memorySize, tableSize}
-use Rattle.heap.specs.Heap.{paintMade, paintFreed, emptyHeap}
-use Rattle.heap.specs.Lent.{started}
-use Rattle.heap.proofs.Exact.{started-exact}
+use Rattle.heap.specs.Heap.{paintMade, paintFreed}
+use Rattle.heap.specs.Lent.{After}
+use Rattle.layout.proofs.Places.{start-low}
 use Rattle.stops.specs.declared.Run.{Run}
 use Rattle.stops.specs.Stop.{refusedRun}
 use Rattle.stops.specs.Held.{codeOf}
-use Rattle.machine.specs.State.{Given, State, blankMemory, startState}
+use Rattle.machine.specs.State.{Given, State, startState}
 use Rattle.machine.specs.Runs.{runFrom, runs}
-use Rattle.machine.specs.Colors.{tableAllows, colorOfObject, tableRule, firstTable}
+use Rattle.machine.specs.Colors.{tableAllows, colorOfObject, tableRule}
 use Rattle.machine.specs.Running.{Lent, Answer, refuse, leaves, runProgram, runReading, exactLengths, runFile, lentOf, answered}
 use Rattle.machine.specs.Turn.{heldRule, Low, AllNarrow, runHeld}
-use Rattle.machine.specs.Start.{piecesHeld, laidTable, Runnable, runLoaded}
-use Rattle.machine.proofs.Starting.{noObject, start-is, laid-first}
+use Rattle.machine.specs.Start.{runFor, runLaid, Runnable, runLoaded}
+use Rattle.start.specs.declared.Laid.{Laid}
+use Rattle.start.specs.First.{firstMemory, firstTable}
+use Rattle.start.specs.Held.{laidStart}
+use Rattle.start.proofs.Starting.{noObject, start-is, starts-first, firstFor}
 use Rattle.machine.proofs.Agreeing.{same-runs, agrees}
 use Rattle.machine.proofs.Temporaries.{narrow-code}
 
@@ -65,30 +66,41 @@ low-starts os fit g = go (ltb g (length os)) refl (getD-filled 400 0 (tabulate (
 
 -- ---- the code's run of what is held
 
-module _ (l : Loaded) (input : List ℕ) (limit : ℕ) (lent : Lent) {lay : Layout} (laid : lay ≡ layoutOf (piecesHeld l)) where
-  pub over-end : {run : Run} → 28672 < lay .end → run ≡ refusedRun (refusal 9 0) → answered run lent ≡ runLoaded l input limit lent
-  unfolding runLoaded
-  over-end over e =
-      let past : 28672 < endOf (piecesHeld l) = subst (λ (n : ℕ). 28672 < n) (ap (λ x. x .end) laid) over in
-      ap (λ x. answered x lent) e ∙ rw (lt-leb (endOf (piecesHeld l)) 28672 past, runLoaded) refl
+module _ (l : Loaded) (input : List ℕ) (limit : ℕ) (lent : Lent) where
+  abbrev start : After Laid
+  start = laidStart (l .kinds) (l .sizes) (l .colors) (l .objects) (lent .memory) (lent .table)
 
-  module _ (fit : lay .end ≤ 28672) where
-    within-end : endOf (piecesHeld l) ≤ 28672
-    within-end = subst (λ (n : ℕ). n ≤ 28672) (ap (λ x. x .end) laid) fit
+  module _ (laid : Laid) (after : Lent) where
+    abbrev runsBy : Bool → Answer
+    runsBy b =
+        elim b [
+          | true ↦ runHeld (codeOf (l .code) (l .lines)) (laid .starts) (l .colors) input limit after
+          | false ↦ refuse after (refusal 9 0)
+        ]
 
-    pub low-laid : Low (lay .starts)
-    low-laid = subst (λ (x : Layout). Low (x .starts)) (sym laid) (low-starts (piecesHeld l) within-end)
+    pub says-long : {run : Run} → laid .fits ≡ false → run ≡ refusedRun (refusal 9 0)
+        → answered run after ≡ runFor (codeOf (l .code) (l .lines)) (l .colors) input limit after laid
+    says-long not e = ap (λ x. answered x after) e ∙ sym (ap runsBy not)
 
-    pub runs-laid : {x : Answer} {memory table : List ℕ} → memory ≡ started (lent .memory)
-        → table ≡ laidTable (lay .starts) (l .kinds) (l .sizes) (l .colors) (l .objects) (lent .table)
-        → x ≡ runHeld (codeOf (l .code) (l .lines)) (lay .starts) (l .colors) input limit (lentOf memory table (lent .room))
+    pub says-fits : {x : Answer} → laid .fits ≡ true → x ≡ runHeld (codeOf (l .code) (l .lines)) (laid .starts) (l .colors) input limit after
+        → x ≡ runFor (codeOf (l .code) (l .lines)) (l .colors) input limit after laid
+    says-fits fit e = e ∙ sym (ap runsBy fit)
+
+  module _ {laid : Laid} (told : laid ≡ start .answer) where
+    -- a run from what was laid out, or a refusal, as the answer says
+    pub runs-laid : {x : Answer} {memory table : List ℕ} → memory ≡ start .memory → table ≡ start .table
+        → x ≡ runFor (codeOf (l .code) (l .lines)) (l .colors) input limit (lentOf memory table (lent .room)) laid
         → x ≡ runLoaded l input limit lent
     unfolding runLoaded
-    runs-laid {x} {memory} {table} m t e =
-        let all : table ≡ laidTable (layoutOf (piecesHeld l) .starts) (l .kinds) (l .sizes) (l .colors) (l .objects) (lent .table) =
-        t ∙ ap (λ y. laidTable (y .starts) (l .kinds) (l .sizes) (l .colors) (l .objects) (lent .table)) laid in
-        e ∙ (λ i. runHeld (codeOf (l .code) (l .lines)) (laid i .starts) (l .colors) input limit (lentOf (m i) (all i) (lent .room)))
-        ∙ rw (le-leb (endOf (piecesHeld l)) 28672 within-end, runLoaded) refl
+    runs-laid m t e =
+        e ∙ (λ i. runFor (codeOf (l .code) (l .lines)) (l .colors) input limit (lentOf (m i) (t i) (lent .room)) (told i))
+
+    pub low-laid : laid .fits ≡ true → Low (laid .starts)
+    unfolding laidStart
+    low-laid fit =
+        let os = piecesIn (l .kinds) (l .sizes) (l .colors) (l .objects) in
+        let known : fits os ≡ true = sym (ap (λ x. x .fits) told) ∙ fit in
+        subst (λ (x : Laid). Low (x .starts)) (sym told) (low-starts os (leb-true _ _ known))
 
 -- ---- a program that is held
 
@@ -116,40 +128,27 @@ module _ (p : Program) (good : Good 2 p) (input : List ℕ) (limit : ℕ) (lent 
       (start-is (p .objects) (good .objects-most) fit) (good .code))
       turns state
 
-  blank-memory : started (lent .memory) ≡ emptyHeap blankMemory
-  unfolding blankMemory
-  blank-memory = started-exact (lent .memory) memory
-
   run-held : endOf (piecesOf (p .objects)) ≤ 28672
       → runHeld (codeOf (filled 2000 (line Instr.End) (map line (p .code))) (length (p .code))) starts colors input limit
-      (lentOf (started (lent .memory)) (laidTable starts (filled 400 0 (map (λ o. o .kind) (p .objects))) (filled 400 0 (map (λ o. o .size) (p .objects))) colors (length (p .objects)) (lent .table)) (lent .room))
+      (lentOf firstMemory (firstTable p) (lent .room))
       ≡ runProgram input limit lent p
   unfolding runs tableRule
   run-held fit =
-      (λ i. runHeld (lines-filled 2000 (line Instr.End) (p .code) i) starts colors input limit (lentOf (blank-memory i) (laid-first p (lent .table) (good .objects-most) fit table i) (lent .room)))
+      ap (λ code. runHeld code starts colors input limit (lentOf firstMemory (firstTable p) (lent .room))) (lines-filled 2000 (line Instr.End) (p .code))
       ∙ ap (leaves (lent .room)) (rules-run fit ((limit + 1) * (length (p .code) + 1)) (startState (firstTable p)))
 
   pub runs-program : runLoaded (heldAs Outcome.Whole p) input limit lent ≡ runReading input limit lent (whole p)
   unfolding runLoaded
-  runs-program = ap by (pieces-held (p .objects) (good .objects-most)) ∙ go (fits (piecesOf (p .objects))) refl
+  runs-program =
+      ap (runLaid code colors input limit (lent .room)) (starts-first p (lent .memory) (lent .table) (good .objects-most) memory table)
+      ∙ go (fits (piecesOf (p .objects))) refl
     where
-      by : List Piece → Answer
-      by os =
-          elim (fits os) [
-            | true ↦
-                runHeld (codeOf (filled 2000 (line Instr.End) (map line (p .code))) (length (p .code))) (layoutOf os .starts) colors input limit
-                (lentOf (started (lent .memory)) (laidTable (layoutOf os .starts) (filled 400 0 (map (λ o. o .kind) (p .objects))) (filled 400 0 (map (λ o. o .size) (p .objects))) colors (length (p .objects)) (lent .table)) (lent .room))
-            | false ↦ refuse lent (refusal 9 0)
-          ]
+      code : List Instr
+      code = codeOf (filled 2000 (line Instr.End) (map line (p .code))) (length (p .code))
 
       go : (b : Bool) → fits (piecesOf (p .objects)) ≡ b
-          → _≡_ {A = Answer} (elim b [
-            | true ↦
-                runHeld (codeOf (filled 2000 (line Instr.End) (map line (p .code))) (length (p .code))) starts colors input limit
-                (lentOf (started (lent .memory)) (laidTable starts (filled 400 0 (map (λ o. o .kind) (p .objects))) (filled 400 0 (map (λ o. o .size) (p .objects))) colors (length (p .objects)) (lent .table)) (lent .room))
-            | false ↦ refuse lent (refusal 9 0)
-          ])
-          (elim b [ true ↦ runProgram input limit lent p | false ↦ refuse lent (refusal 9 0) ])
+          → runLaid code colors input limit (lent .room) (firstFor p (lent .memory) (lent .table) (good .objects-most) memory table b)
+          ≡ elim b [ true ↦ runProgram input limit lent p | false ↦ refuse lent (refusal 9 0) ]
       go true e = run-held (leb-true _ _ e)
       go false e = refl
 
@@ -184,13 +183,12 @@ module _ (file input : List ℕ) (limit : ℕ) (lent : Lent) where
           go (whole p) e =
               let g : Good 2 p = good-read 2 file p e in
               record {
-                objects = g .objects-most;
                 lines = within-bounds 1 2000 (length (p .code)) (g .code-most) .1;
                 temps = subst AllNarrow (sym (lines-filled 2000 (line Instr.End) (p .code))) (narrow-code (scopeOf 2 p) (p .code) (g .code));
                 memory = memory;
                 table = table;
               }
-          go (Reading.refused q) e = record { objects = omega arith; lines = omega arith; temps = λ at h. absurd (not-suc-le-zero h); memory = memory; table = table }
+          go (Reading.refused q) e = record { lines = omega arith; temps = λ at h. absurd (not-suc-le-zero h); memory = memory; table = table }
 
       pub runs-whole : {l : Loaded} {x : Answer} → l ≡ held (readFile 2 file) → l .outcome ≡ Outcome.Whole → x ≡ runLoaded l input limit lent
           → x ≡ runFile file input limit lent

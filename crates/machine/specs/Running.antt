@@ -11,7 +11,8 @@ use Rattle.memory.specs.Memory.{exact}
 use Rattle.stops.specs.declared.Run.{Run}
 use Rattle.stops.specs.Stop.{refusedRun}
 use Rattle.machine.specs.Runs.{Outcome, runs}
-use Rattle.machine.specs.Colors.{tableRule, firstTable}
+use Rattle.start.specs.First.{firstTable}
+use Rattle.machine.specs.Colors.{tableRule}
 
 -- what is lent: memory, the table, and the room for numbers out
 pub record Lent : Type 0 where

@@ -7,8 +7,8 @@ use mathlib.Core.Bool.{Bool}
 use lib.ListN.{getD, replicate}
 use Rattle.opcodes.specs.declared.Instr.{Instr}
 use Rattle.opcodes.specs.View.{Aim, inGlobal, atTemp, View}
-use Rattle.memory.specs.Memory.{memorySize}
-use Rattle.heap.specs.Heap.{Made, Freed, emptyHeap}
+use Rattle.heap.specs.Heap.{Made, Freed}
+use Rattle.start.specs.First.{firstMemory}
 
 -- a rule with a state S of its own
 pub record Rule (S : Type 0) : Type 0 where
@@ -36,16 +36,12 @@ pub record State (S : Type 0) : Type 0 where
   pub steps : ℕ
   pub own : S
 
--- "16 temporaries of 32 bits, all 0 at the start"; "Memory and table are cleared and laid out at the
--- start"
-unfoldable pub blankMemory : List ℕ
-blankMemory = replicate memorySize 0
-
+-- "16 temporaries of 32 bits, all 0 at the start"
 abbrev pub startState : {S : Type 0} → S → State S
 startState own =
     record {
       temps = replicate 16 0;
-      memory = emptyHeap blankMemory;
+      memory = firstMemory;
       outs = [];
       taken = 0;
       at = 0;

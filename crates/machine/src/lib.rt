@@ -12,7 +12,7 @@ mod temps; // temps.rt: temporaries and calculations
 mod moves; // moves.rt: jumps, input and output
 mod step; // step.rt: one turn
 mod running; // running.rt: the run loop
-mod start; // start.rt: memory and table at the start
+mod loaded; // loaded.rt: a run of what was read
 mod lent; // lent.rt: memory, table and heap
 
 // How far a run has come: the counts of numbers taken and out, the next instruction, and the steps. What
@@ -53,6 +53,6 @@ pub fn run_file(
     let outcome = held.outcome;
     match outcome {
         Outcome::Refused(why) => refused(why),
-        Outcome::Whole => start::run_loaded(held, input, limit, memory, table, room),
+        Outcome::Whole => loaded::run_loaded(held, input, limit, memory, table, room),
     }
 }

@@ -4,6 +4,7 @@
 // Every function answers for every number that it can be given.
 pub mod table; // table.rt: the rows, and which opcodes and operands a version has
 pub mod ranges; // ranges.rt: the numbers that an operand may be
+pub mod extent; // extent.rt: a size rounded up to eight
 
 // What an operand of an instruction names, and so its range; `None` where there is no operand.
 pub enum Operand {

@@ -15,7 +15,8 @@ use Rattle.layout.specs.Layout.{fits}
 use Rattle.heap.specs.Heap.{heapStart, endSlot}
 use Rattle.plain.proofs.HeapAlloc.{tied-walk}
 use Rattle.machine.specs.State.{Given, State, startState}
-use Rattle.machine.specs.Colors.{tableRule, firstTable}
+use Rattle.start.specs.First.{firstTable}
+use Rattle.machine.specs.Colors.{tableRule}
 use Rattle.plain.specs.Live.{Live, accountOf, account, liveBytes, freeBytes}
 use Rattle.plain.specs.Guards.{Guards}
 use Rattle.plain.specs.Demands.{Reaches, recording, HeapAccounts}

@@ -28,7 +28,8 @@ use Rattle.instrumenter.proofs.ReadsBack.{new-file-reads}
 use Rattle.stops.specs.Stop.{numberOf}
 use Rattle.machine.specs.State.{Given}
 use Rattle.machine.specs.Runs.{runs}
-use Rattle.machine.specs.Colors.{tableRule, firstTable}
+use Rattle.start.specs.First.{firstTable}
+use Rattle.machine.specs.Colors.{tableRule}
 use Rattle.machine.specs.Running as running
 use Rattle.machine.specs.Running.{Lent, refuse, runProgram, runReading, exactLengths, runFile}
 use Rattle.plain.specs.Demands.{Stops, NotAccepted, Refuses, RefusedOnlyFor, Written, AcceptedIsWritten, RunRefuses, stopNumbers, runNumbers, Answered, RunIsAnswered}

@@ -19,7 +19,7 @@ use Rattle.coloring.specs.Colored.{tinted}
 use Rattle.layout.specs.Layout.{Piece, piecesOf, startOf, endOf, fits}
 use Rattle.layout.proofs.Places.{pieceAt, extentAt, start-whole, ends-below, globals-apart}
 use Rattle.plain.specs.Guards.{Exact}
-use Rattle.machine.specs.Colors.{paintGlobals}
+use Rattle.start.specs.First.{paintGlobals}
 use Rattle.heap.specs.Heap.{heapStart}
 use Rattle.plain.specs.Live.{Live, owns}
 use Rattle.plain.specs.Plain.{globalsFrom, globals}

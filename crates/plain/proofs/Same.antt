@@ -15,7 +15,8 @@ use Rattle.stops.specs.Stop.{numberOf}
 use Rattle.machine.specs.State.{Given, State, startState}
 use Rattle.machine.specs.Step.{stop, next, step}
 use Rattle.machine.specs.Runs.{stopped, runs}
-use Rattle.machine.specs.Colors.{tableRule, firstTable}
+use Rattle.start.specs.First.{firstTable}
+use Rattle.machine.specs.Colors.{tableRule}
 use Rattle.machine.proofs.Steps.{stop-not-next, next-same, stop-same}
 use Rattle.machine.proofs.Effects.{Calm, image}
 use Rattle.plain.specs.Live.{Live}

@@ -17,8 +17,7 @@ use Rattle.heap.specs.Heap.{heapStart, endSlot, Block, emptyHeap}
 use Rattle.memory.proofs.Memory.{length-paint, paint-outside, paint-inside}
 use Rattle.plain.proofs.HeapHeaders.{length-putHeader, header-size, header-mark}
 use Rattle.plain.proofs.HeapAlloc.{Tied}
-use Rattle.machine.specs.State.{blankMemory}
-use Rattle.machine.specs.Colors.{paintGlobals, blankTable, firstTable}
+use Rattle.start.specs.First.{blankMemory, paintGlobals, blankTable, firstTable}
 use Rattle.plain.specs.Live.{owns}
 use Rattle.plain.specs.Plain.{globals}
 use Rattle.plain.proofs.Owners.{Each, each-map, owns-outside, Tells}

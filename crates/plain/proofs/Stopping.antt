@@ -22,7 +22,8 @@ use Rattle.stops.specs.declared.Reason.{Reason}
 use Rattle.machine.specs.State.{Rule, Given, State, startState}
 use Rattle.machine.specs.Step.{Effect, stops, passes, completes, Next, stop, next, conclude, effect, lets, perform, step}
 use Rattle.machine.specs.Runs.{stopped, runFrom, turnsFor, runs}
-use Rattle.machine.specs.Colors.{tableRule, firstTable}
+use Rattle.start.specs.First.{firstTable}
+use Rattle.machine.specs.Colors.{tableRule}
 use Rattle.machine.proofs.Steps.{stop-not-next, next-same, stop-same}
 use Rattle.machine.proofs.Turns.{turn-on, turn-stop}
 use Rattle.plain.specs.Plain.{plainRule}

@@ -11,7 +11,7 @@ use Rattle.opcodes.specs.View.{Aim, store, view}
 use Rattle.layout.specs.Layout.{fits}
 use Rattle.machine.specs.State.{Given, State, startState}
 use Rattle.machine.specs.Step.{next, step}
-use Rattle.machine.specs.Colors.{firstTable}
+use Rattle.start.specs.First.{firstTable}
 use Rattle.machine.proofs.Steps.{stop-not-next, next-same}
 use Rattle.machine.proofs.Effects.{image}
 use Rattle.plain.specs.Live.{Live}

@@ -22,7 +22,8 @@ use Rattle.memory.specs.Memory.{memorySize, colorAt, put, bytesOf}
 use Rattle.memory.proofs.Memory.{put-outside, length-bytesOf}
 use Rattle.machine.specs.State.{Given, State, startState, temp, addressOf}
 use Rattle.machine.specs.Step.{next, widthOf, step}
-use Rattle.machine.specs.Colors.{tableRule, firstTable}
+use Rattle.start.specs.First.{firstTable}
+use Rattle.machine.specs.Colors.{tableRule}
 use Rattle.machine.proofs.Steps.{goes-in-code, store-writes}
 use Rattle.machine.proofs.Effects.{image}
 use Rattle.plain.specs.Live.{Live, owns, someLive}

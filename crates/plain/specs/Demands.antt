@@ -25,7 +25,8 @@ use Rattle.stops.specs.Stop.{numberOf}
 use Rattle.machine.specs.State.{Rule, Given, State, startState}
 use Rattle.machine.specs.Step.{stop, next, step, lets}
 use Rattle.machine.specs.Runs.{Outcome, stopped, runs}
-use Rattle.machine.specs.Colors.{tableRule, firstTable}
+use Rattle.start.specs.First.{firstTable}
+use Rattle.machine.specs.Colors.{tableRule}
 use Rattle.machine.specs.Running as running
 use Rattle.machine.specs.Running.{Lent, refuse, exactLengths, runFile}
 use Rattle.plain.specs.Live.{Live, owns, someLive, liveMaking, liveFreeing, account}

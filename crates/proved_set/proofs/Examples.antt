@@ -20,10 +20,10 @@ use Rattle.instrumenter.specs.Answer.{instrument}
 use Rattle.memory.specs.Memory.{bytesOf, numberAt, put, fill, colorAt, everyByte}
 use Rattle.heap.specs.Heap.{walk, blockAt, putHeader, sound, walkFrom, takeBlock, firstFit, alloc, freeIn, free, emptyHeap}
 use Rattle.stops.specs.Stop.{placesIn}
-use Rattle.machine.specs.State.{blankMemory}
 use Rattle.machine.specs.Step.{step}
 use Rattle.machine.specs.Runs.{Outcome, runFrom, runs}
-use Rattle.machine.specs.Colors.{tableRule, paintGlobals, blankTable, firstTable}
+use Rattle.start.specs.First.{blankMemory, paintGlobals, blankTable, firstTable}
+use Rattle.machine.specs.Colors.{tableRule}
 use Rattle.machine.specs.Running.{refuse, runProgram, runReading, runFile}
 use Rattle.proved_set.specs.Examples.{versionTwo, zeros, runOf, numbersOut, firstBlock, heapOf, fourBlocks, bothFreed, fourBodies, heapAfter, ProvedSet}
 

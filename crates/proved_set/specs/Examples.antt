@@ -20,7 +20,7 @@ use Rattle.instrumenter.specs.Answer.{FileAnswer, file, instrument}
 use Rattle.memory.specs.Memory.{memorySize, tableSize, colorAt}
 use Rattle.heap.specs.Heap.{Walk, unsound, blocks, walk}
 use Rattle.stops.specs.Stop.{fiveOf}
-use Rattle.machine.specs.Colors.{firstTable}
+use Rattle.start.specs.First.{firstTable}
 use Rattle.machine.specs.Running.{Lent, Answer as Ran, runFile}
 
 -- ---- instrumenting and running

@@ -10,7 +10,7 @@ use Rattle.machine.specs.Running.{Lent, Answer, lentOf, answered}
 use Rattle.unique.specs.Once.{Once}
 use Rattle.unique.specs.Once.{numbers-read-number, numbers-number-width, numbers-write-number}
 use Rattle.unique.specs.Once.{reader-open, reader-after, reader-number, reader-read-at}
-use Rattle.unique.specs.Once.{opcodes-row-of, opcodes-has-opcode, opcodes-is-present, opcodes-is-within, opcodes-is-color, opcodes-is-allowed}
+use Rattle.unique.specs.Once.{opcodes-row-of, opcodes-has-opcode, opcodes-is-present, opcodes-is-within, opcodes-is-color, opcodes-is-allowed, opcodes-extent-of}
 use Rattle.unique.specs.Once.{instructions-instr-of, instructions-parts-of}
 use Rattle.unique.specs.Once.{files-read-routine, files-read-program}
 use Rattle.unique.specs.Once.{writer-write-program}
@@ -20,6 +20,7 @@ use Rattle.unique.specs.Once.{layout-lay-out}
 use Rattle.unique.specs.Once.{memory-fill, memory-load8, memory-load32, memory-number-at, memory-store8, memory-store32, memory-check8, memory-check32, memory-paint, memory-are-exact}
 use Rattle.unique.specs.Once.{heap-start, heap-alloc, heap-free}
 use Rattle.unique.specs.Once.{instrumenter-instrument}
+use Rattle.unique.specs.Once.{start-lay}
 use Rattle.unique.specs.Once.{stops-refused, stops-numbers-of, stops-place-of, stops-recorded}
 use Rattle.unique.specs.Once.{machine-run-file}
 use Rattle.unique.specs.Once.{controller-control, controller-toltjebrim-control}
@@ -103,6 +104,9 @@ instructions-instr-of-once op x y z = once
 pub instructions-parts-of-once : instructions-parts-of
 instructions-parts-of-once i = once
 
+pub opcodes-extent-of-once : opcodes-extent-of
+opcodes-extent-of-once size = once
+
 -- ---- files
 
 pub files-read-routine-once : files-read-routine
@@ -181,6 +185,11 @@ heap-free-once memory table address = triple-once
 
 pub instrumenter-instrument-once : instrumenter-instrument
 instrumenter-instrument-once file room = pair-once
+
+-- ---- start
+
+pub start-lay-once : start-lay
+start-lay-once kinds sizes colors objects memory table = triple-once
 
 -- ---- stops
 

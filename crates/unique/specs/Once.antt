@@ -18,7 +18,7 @@ use Rattle.opcodes.specs.declared.Scope.{Scope}
 use Rattle.opcodes.specs.Table.{rowOf, make, partsOf}
 use Rattle.instructions.specs.Making.{made}
 use Rattle.opcodes.specs.Ranges.{hasOpcode, within, isColor, present, scopeOver, allowed}
-use Rattle.opcodes.specs.View.{view}
+use Rattle.opcodes.specs.View.{view, extent}
 use Rattle.files.specs.declared.Line.{Line}
 use Rattle.files.specs.declared.Loaded.{Loaded}
 use Rattle.files.specs.declared.Written as FileWritten
@@ -35,6 +35,8 @@ use Rattle.heap.specs.declared.Release.{Release}
 use Rattle.heap.specs.Lent.{allocated, released, started}
 use Rattle.instrumenter.specs.declared.Instrumented.{Instrumented}
 use Rattle.instrumenter.specs.Answer.{instrument, told, roomHolding}
+use Rattle.start.specs.declared.Laid.{Laid}
+use Rattle.start.specs.Held.{laidStart}
 use Rattle.stops.specs.declared.Reason.{Reason}
 use Rattle.stops.specs.declared.Run.{Run}
 use Rattle.stops.specs.Stop.{refusedRun, fiveOf, placeIn, recordOf}
@@ -101,6 +103,9 @@ instructions-instr-of = (op x y z : ℕ) → Once (λ r. r ≡ made op x y z)
 
 abbrev pub instructions-parts-of : Type 0
 instructions-parts-of = (i : Instr) → Once (λ r. r ≡ partsOf i)
+
+abbrev pub opcodes-extent-of : Type 0
+opcodes-extent-of = (size : ℕ) → Once (λ r. r ≡ extent size)
 
 -- ---- files
 
@@ -202,6 +207,17 @@ instrumenter-instrument =
     (file room : List ℕ)
     → Once {A = Instrumented × List ℕ}
     (λ (r, room′). (r ≡ told (instrument file (length room))) × (room′ ≡ roomHolding room (instrument file (length room))))
+
+-- ---- start
+
+abbrev pub start-lay : Type 0
+start-lay =
+    (kinds sizes colors : List ℕ) (objects : ℕ) (memory table : List ℕ)
+    → Once {A = Laid × List ℕ × List ℕ}
+    (λ (r, memory′, table′).
+    (r ≡ laidStart kinds sizes colors objects memory table .answer)
+    × (memory′ ≡ laidStart kinds sizes colors objects memory table .memory)
+    × (table′ ≡ laidStart kinds sizes colors objects memory table .table))
 
 -- ---- stops
 

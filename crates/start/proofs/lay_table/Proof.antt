@@ -1,22 +1,25 @@
-use Prim.Native.Nat.{ℕ, _≤_, _-_}
+use Prim.Native.Nat.{ℕ, _<_, _≤_, _-_}
+use mathlib.Core.Logic.{⊎-elim}
 use mathlib.Core.Path.{_≡_, refl, _∙_, ap}
 use native.Mathlib.Omega.{arith}
+use borrow.Author.Tests.{ltb-true, ltb-false}
 use borrow.Author.Needs.{needs}
 use denote.Ref.{now}
 use lib.ListN.{length}
-use Rattle.machine.specs.Start.{paintHeld}
-use Rattle.machine.proofs.Starting.{paint-next, paint-done, lays}
-use Rattle.machine.proofs.start.lay_table.Statement.{statement}
-use Rattle.machine.proofs.start.lay_table.Tie as tie
+use Rattle.layout.specs.Arrays.{counted}
+use Rattle.start.specs.Held.{paintHeld}
+use Rattle.start.proofs.Starting.{counted-most, counted-there, counted-below, paint-next, paint-done, lays}
+use Rattle.start.proofs.lay_table.Statement.{statement}
+use Rattle.start.proofs.lay_table.Tie as tie
 
 abbrev Inv-loop : tie.InvT-loop
 Inv-loop table₀ objects starts kinds sizes colors g₀ table g =
-    (paintHeld starts kinds sizes colors g (objects - g) table ≡ paintHeld starts kinds sizes colors 0 objects table₀)
-    × (g ≤ objects)
+    (paintHeld starts kinds sizes colors g (counted objects - g) table ≡ paintHeld starts kinds sizes colors 0 (counted objects) table₀)
+    × (g ≤ 400)
     × (length table ≡ length table₀)
 
 abbrev μ-loop : tie.MeasureT-loop
-μ-loop table₀ objects starts kinds sizes colors g₀ table g = objects - g
+μ-loop table₀ objects starts kinds sizes colors g₀ table g = 400 - g
 
 fill-requires : tie.Need-fill-requires Inv-loop μ-loop
 fill-requires c κs = search needs
@@ -52,9 +55,10 @@ loop-less : tie.Need-loop-less Inv-loop μ-loop
 loop-less c = omega arith
 
 loop-again : tie.Need-loop-again Inv-loop μ-loop
-loop-again c = let a = c .before .before .before .before .before .before .before .before .before .before .before .args in
-    let l = c .before .before .before .before .before .loop in (
-      paint-next (a .t2) (a .t3) (a .t4) (a .t5) (l .g) (a .objects) (l .table) (c .before .before .paint-one .last .0) (c .before .before .before .before .loop-test .taken) (l .inv .0) (c .before .before .paint-one .ensures),
+loop-again c = let a = c .before .before .before .before .before .before .before .before .before .before .before .before .args in
+    let l = c .before .before .before .before .before .before .loop in
+    let one : l .g < a .objects = ltb-true _ _ (c .before .before .before .before .if1 .taken) in (
+      paint-next (a .t2) (a .t3) (a .t4) (a .t5) (l .g) (counted (a .objects)) (l .table) (c .before .before .paint-one .last .0) (counted-below (a .objects) (l .g) (c .before .before .before .before .before .loop-test .taken) one) (l .inv .0) (c .before .before .paint-one .ensures),
       omega arith,
       c .before .before .paint-one .kept .0 ∙ l .inv .2,
     )
@@ -71,7 +75,9 @@ same-length c = c .before .before .paint2 .kept .0 ∙ c .before .before .before
 returns : tie.Need-returns Inv-loop μ-loop
 returns c = let a = c .before .before .before .before .before .before .before .before .before .before .before .before .before .before .before .args in
     let l = c .before .before .before .before .before .before .before .before .before .loop in
-    lays (a .t2) (a .t3) (a .t4) (a .t5) (a .objects) (now (a .table)) (c .before .before .before .before .before .before .before .before .before .before .before .before .fill .ensures) (paint-done (a .t2) (a .t3) (a .t4) (a .t5) (l .g) (a .objects) (l .table) (c .before .before .before .before .before .before .before .before .loop-test .left) (l .inv .0))
+    let all : counted (a .objects) ≤ l .g =
+    ⊎-elim (λ w. omega (arith, counted-there (a .objects), ltb-false (l .g) (a .objects) (w .1 .left))) (λ w. omega (arith, counted-most (a .objects))) (c .before .before .before .before .before .before .before .before .loop-test .came) in
+    lays (a .t2) (a .t3) (a .t4) (a .t5) (a .objects) (now (a .table)) (c .before .before .before .before .before .before .before .before .before .before .before .before .fill .ensures) (paint-done (a .t2) (a .t3) (a .t4) (a .t5) (l .g) (counted (a .objects)) (l .table) all (l .inv .0))
     (c .before .before .before .before .before .before .paint .ensures) (c .before .before .paint2 .ensures)
 
 pub lay-table-spec : {M : Type 1} → statement M

@@ -1,11 +1,15 @@
-use Rattle.machine.proofs.Starting.{paints, paints-not}
+use Rattle.start.proofs.Starting.{paints, paints-not}
+use native.Mathlib.Omega.{arith}
 use denote.Ref.{now}
 use borrow.Author.Needs.{needs}
-use Rattle.machine.proofs.start.paint_one.Statement.{statement}
-use Rattle.machine.proofs.start.paint_one.Tie as tie
+use Rattle.start.proofs.paint_one.Statement.{statement}
+use Rattle.start.proofs.paint_one.Tie as tie
 
 extent-of-requires : tie.Need-extent-of-requires
 extent-of-requires c κs = search needs
+
+cast-paint : tie.Need-cast-paint
+cast-paint c = omega (arith, c .extent-of .ensures)
 
 paint-requires : tie.Need-paint-requires
 paint-requires c κs = search needs
@@ -21,4 +25,4 @@ returns-2 c = let a = c .before .before .args in paints-not (now (a .table)) (a 
 
 pub paint-one-spec : {M : Type 1} → statement M
 paint-one-spec =
-    tie.close (tie.spec extent-of-requires paint-requires same-length returns returns-2)
+    tie.close (tie.spec extent-of-requires cast-paint paint-requires same-length returns returns-2)
