@@ -20,14 +20,14 @@ use Rattle.files.specs.Writing.{every, goodInstr, scopeOf}
 use Rattle.opcodes.proofs.Bounds.{kind-below}
 use Rattle.files.proofs.Tests.{both-left, both-right, every-at}
 use Rattle.heap.specs.Heap.{Made, Freed, Alloc, alloc}
-use Rattle.machine.specs.State.{Rule, Given, State, temp}
+use Rattle.machine.specs.State.{Span, Rule, Given, State, temp}
 use Rattle.machine.specs.Step.{Next, stop, next, conclude, allocating, perform, step, becomes}
 use Rattle.machine.specs.Runs.{Outcome, stopped, runFrom}
 use Rattle.machine.proofs.Steps.{step-past, step-limit, step-goes}
 
 -- ---- agreement
 
-module _ {S : Type 0} (code : List Instr) (start start′ : ℕ → ℕ) (allows : S → View → (address n : ℕ) → Bool)
+module _ {S : Type 0} (code : List Instr) (start start′ : ℕ → ℕ) (allows : S → View → Span → Bool)
     (making making′ : S → (site : ℕ) → Made → S) (freeing : S → (address : ℕ) → Freed → S) (given : Given) where
   abbrev rule : Rule S
   rule = record { code = code; start = start; allows = allows; making = making; freeing = freeing }
@@ -119,7 +119,7 @@ module _ {S : Type 0} (code : List Instr) (start start′ : ℕ → ℕ) (allows
 
 -- ---- an accepted file names objects that there are
 
-module _ {S : Type 0} (p : Program) (start start′ : ℕ → ℕ) (allows : S → View → (address n : ℕ) → Bool)
+module _ {S : Type 0} (p : Program) (start start′ : ℕ → ℕ) (allows : S → View → Span → Bool)
     (making making′ : S → (site : ℕ) → Made → S) (freeing : S → (address : ℕ) → Freed → S) (given : Given)
     (same : (g : ℕ) → g < length (p .objects) → start g ≡ start′ g) where
   abbrev Fine : View → Type 0

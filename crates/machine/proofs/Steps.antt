@@ -10,8 +10,8 @@ use Rattle.opcodes.specs.declared.Instr.{Instr}
 use Rattle.opcodes.specs.View.{Aim, store, view}
 use Rattle.memory.specs.Memory.{bytesOf, put, inside}
 use Rattle.stops.specs.declared.Reason.{Reason}
-use Rattle.machine.specs.State.{Rule, Given, State, temp, addressOf}
-use Rattle.machine.specs.Step.{completes, Next, stop, next, widthOf, storing, conclude, lets, perform, step}
+use Rattle.machine.specs.State.{Rule, Given, State, temp, addressOf, widthOf}
+use Rattle.machine.specs.Step.{completes, Next, stop, next, storing, conclude, lets, perform, step}
 
 -- a stop is no way on, and each has what it was made of
 pub stop-not-next : {S : Type 0} {reason : Reason} {after : State S} → _≡_ {A = Next S} (stop reason) (next after) → ⊥

@@ -12,8 +12,8 @@ use Rattle.opcodes.specs.View.{View, Act, act, jump, jumpIf, store, check, byte
 use Rattle.memory.specs.Memory.{inside}
 use Rattle.heap.specs.Heap.{Alloc, Free, alloc, free}
 use Rattle.stops.specs.declared.Reason.{Reason}
-use Rattle.machine.specs.State.{Rule, Given, State, temp, addressOf}
-use Rattle.machine.specs.Step.{Effect, stops, passes, completes, Next, stop, next, conclude, allocating, freeing, actEffect, effect, lets, perform, step, widthOf}
+use Rattle.machine.specs.State.{Rule, Given, State, temp, addressOf, widthOf}
+use Rattle.machine.specs.Step.{Effect, stops, passes, completes, Next, stop, next, conclude, allocating, freeing, actEffect, effect, lets, perform, step}
 use Rattle.machine.specs.Runs.{stopped, runFrom}
 
 -- a reason that is no refusal

@@ -10,14 +10,14 @@ use Rattle.opcodes.specs.View.{View, act, jump, jumpIf, store, check}
 use Rattle.layout.specs.Layout.{piecesOf, startOf}
 use Rattle.memory.specs.Memory.{hasColor, everyByte}
 use Rattle.heap.specs.Heap.{paintMade, paintFreed}
-use Rattle.machine.specs.State.{Rule}
+use Rattle.machine.specs.State.{Span, Rule}
 
-abbrev pub tableAllows : (table : List ℕ) → View → (address n : ℕ) → Bool
-tableAllows table (act x) address n = true
-tableAllows table (jump p) address n = true
-tableAllows table (jumpIf a p) address n = true
-tableAllows table (store aim b s) address n = true
-tableAllows table (check aim c) address n = everyByte n (hasColor table c) address
+abbrev pub tableAllows : (table : List ℕ) → View → Span → Bool
+tableAllows table (act x) span = true
+tableAllows table (jump p) span = true
+tableAllows table (jumpIf a p) span = true
+tableAllows table (store aim b s) span = true
+tableAllows table (check aim c) span = everyByte (span .count) (hasColor table c) (span .address)
 
 abbrev pub colorOfObject : List Object → (g : ℕ) → ℕ
 colorOfObject objects g = getD objects g (record { kind = 0; size = 0; color = 0 }) .color

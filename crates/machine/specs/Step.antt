@@ -5,11 +5,11 @@ use mathlib.Core.Bool.{Bool, true, false}
 use lib.ListN.{length, getD, set}
 use lib.Dec.{ltb, eqb}
 use Rattle.opcodes.specs.declared.Instr.{Instr}
-use Rattle.opcodes.specs.View.{Aim, inGlobal, atTemp, bytes, Act, View, act, jump, jumpIf, store, check, view}
+use Rattle.opcodes.specs.View.{Aim, bytes, Act, View, act, jump, jumpIf, store, check, view}
 use Rattle.memory.specs.Memory.{bytesOf, numberAt, put, inside}
 use Rattle.heap.specs.Heap.{Alloc, Free, alloc, free}
 use Rattle.stops.specs.declared.Reason.{Reason}
-use Rattle.machine.specs.State.{Rule, Given, State, temp, addressOf}
+use Rattle.machine.specs.State.{Span, Rule, Given, State, temp, spanOf}
 
 -- what an instruction does that the rule lets go on: it stops the run, it passes as a check does, or
 -- it completes with these temporaries, memory, numbers out, numbers taken and rule's state
@@ -22,11 +22,6 @@ pub data Effect (S : Type 0) : Type 0 where
 pub data Next (S : Type 0) : Type 0 where
   stop : Reason → Next S
   next : State S → Next S
-
--- how many bytes an aim covers
-abbrev pub widthOf : Aim → ℕ
-widthOf (inGlobal g k w) = bytes w
-widthOf (atTemp a w) = bytes w
 
 module _ {S : Type 0} (rule : Rule S) (given : Given) (state : State S) where
   -- nothing changes but where the run goes on
@@ -47,11 +42,11 @@ module _ {S : Type 0} (rule : Rule S) (given : Given) (state : State S) where
       [ true ↦ becomes d (numberAt n (state .memory) address) | false ↦ stops Reason.ReadOutside ]
 
   -- "write the low 1 or 4 bytes"; "35 store outside memory"
-  abbrev pub storing : (address n value : ℕ) → Effect S
-  storing address n v =
-      elim (inside address n) [
+  abbrev pub storing : Span → (value : ℕ) → Effect S
+  storing span v =
+      elim (inside (span .address) (span .count)) [
         | true ↦
-            completes (state .temps) (put (state .memory) address (bytesOf n v)) (state .outs) (state .taken) (state .own)
+            completes (state .temps) (put (state .memory) (span .address) (bytesOf (span .count) v)) (state .outs) (state .taken) (state .own)
         | false ↦ stops Reason.StoreOutside
       ]
 
@@ -92,11 +87,15 @@ module _ {S : Type 0} (rule : Rule S) (given : Given) (state : State S) where
         | false ↦ stops Reason.NoRoom
       ]
 
+  -- the bytes that an aim points at
+  abbrev aimed : Aim → Span
+  aimed aim = spanOf (rule .start) (state .temps) aim
+
   abbrev pub effect : View → Effect S
   effect (act x) = actEffect x
   effect (jump p) = unchanged
   effect (jumpIf a p) = unchanged
-  effect (store aim b s) = storing (addressOf (rule .start) (state .temps) aim) (widthOf aim) (value b)
+  effect (store aim b s) = storing (aimed aim) (value b)
   effect (check aim c) = passes
 
   -- what the rule says to an instruction; only stores and checks ask it
@@ -104,8 +103,8 @@ module _ {S : Type 0} (rule : Rule S) (given : Given) (state : State S) where
   lets (act x) = true
   lets (jump p) = true
   lets (jumpIf a p) = true
-  lets (store aim b s) = rule .allows (state .own) (store aim b s) (addressOf (rule .start) (state .temps) aim) (widthOf aim)
-  lets (check aim c) = rule .allows (state .own) (check aim c) (addressOf (rule .start) (state .temps) aim) (widthOf aim)
+  lets (store aim b s) = rule .allows (state .own) (store aim b s) (aimed aim)
+  lets (check aim c) = rule .allows (state .own) (check aim c) (aimed aim)
 
   -- "to instruction p; only if a is not 0"
   abbrev pub nextAt : View → ℕ

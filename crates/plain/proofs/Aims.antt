@@ -17,7 +17,7 @@ use Rattle.safety.proofs.Stores.{unsafe-one}
 use Rattle.coloring.specs.Class.{holds, some, unsafeObject}
 use Rattle.coloring.proofs.Members.{some-here, some-behind, holds-at}
 use Rattle.memory.specs.Memory.{memorySize, inside}
-use Rattle.machine.specs.Step.{widthOf}
+use Rattle.machine.specs.State.{widthOf}
 use Rattle.plain.proofs.Good.{Fine, Good}
 
 -- ---- sets

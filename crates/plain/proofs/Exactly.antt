@@ -13,8 +13,8 @@ use Rattle.safety.proofs.Stores.{unsafeStore, unsafe-one, Stores, stores}
 use Rattle.layout.specs.Layout.{startOf}
 use Rattle.memory.specs.Memory.{hasColor, everyByte}
 use Rattle.routines.specs.Accepted.{plainPieces, Accepted}
-use Rattle.machine.specs.State.{Given, State, addressOf}
-use Rattle.machine.specs.Step.{widthOf, lets}
+use Rattle.machine.specs.State.{Given, State, addressOf, widthOf, spanOf}
+use Rattle.machine.specs.Step.{lets}
 use Rattle.machine.specs.Colors.{tableRule}
 use Rattle.machine.proofs.Effects.{image}
 use Rattle.plain.specs.Live.{Live}
@@ -39,8 +39,8 @@ module _ (p q : Program) (accepted : Accepted p) (guards : Guards p q) (given : 
         let fine : Good p = good p (accepted .good) in
         let its : ℕ = colorOfSet (guards .color) (setOf p aim t) in
         let address : ℕ = addressOf (startOf (plainPieces p)) (s .temps) aim in
-        let asks : plainAllows p (s .own) (store aim b t) address (widthOf aim) ≡ everyByte (widthOf aim) (hasColor (own .0) its) address =
-        ap (λ (us : List Unsafe). keepsTo p (s .own) us address (widthOf aim)) (unsafe-one p aim b t unsafe)
+        let asks : plainAllows p (s .own) (store aim b t) (spanOf (startOf (plainPieces p)) (s .temps) aim) ≡ everyByte (widthOf aim) (hasColor (own .0) its) address =
+        ap (λ (us : List Unsafe). keepsTo p (s .own) us (spanOf (startOf (plainPieces p)) (s .temps) aim)) (unsafe-one p aim b t unsafe)
         ∙ rule-same p (guards .color) (globals-whole p (accepted .fitting)) (s .own) own (s .memory) h (guards .exact) (setOf p aim t) (class-unsafe p fine (s .at) inCode aim b t is unsafe)
         (widthOf aim) address in
         record {

@@ -34,8 +34,8 @@ use Rattle.memory.specs.Memory.{memorySize, colorAt, bytesOf, put, everyByte, i
 use Rattle.heap.specs.Heap.{heapStart}
 use Rattle.memory.proofs.Memory.{length-bytesOf, everyByte-each}
 use Rattle.stops.specs.declared.Reason.{Reason}
-use Rattle.machine.specs.State.{Given, State, temp, addressOf}
-use Rattle.machine.specs.Step.{Effect, stops, passes, completes, stop, next, widthOf, storing, conclude, effect, nextAt, lets, perform, step}
+use Rattle.machine.specs.State.{Given, State, temp, addressOf, widthOf, spanOf}
+use Rattle.machine.specs.Step.{Effect, stops, passes, completes, stop, next, storing, conclude, effect, nextAt, lets, perform, step}
 use Rattle.memory.specs.Memory.{hasColor}
 use Rattle.machine.proofs.Steps.{step-past, step-limit, step-goes}
 use Rattle.machine.proofs.Effects.{Calm, image, Follows, act-follows}
@@ -223,7 +223,7 @@ module _ (p q : Program) (guards : Guards p q) (given : Given) where
           went s at₂ own h (store aim b s₀) (store aim b 0) behind (s .temps) (put (s .memory) address bytes) (s .outs) (s .taken) (s .own) own
           (step₁ (store aim b s₀) e ∙ rw (allowed, perform) (rw (fits, storing)))
           (step₂ at₂ (store aim b 0) inside₂ is
-          ∙ ap (λ f. conclude (rule₂ q) given (image s at₂ own) (store aim b 0) (storing (rule₂ q) given (image s at₂ own) (addressOf f (s .temps) aim) (widthOf aim) (temp (s .temps) b))) (start-same p q guards)
+          ∙ ap (λ f. conclude (rule₂ q) given (image s at₂ own) (store aim b 0) (storing (rule₂ q) given (image s at₂ own) (spanOf f (s .temps) aim) (temp (s .temps) b))) (start-same p q guards)
           ∙ rw (fits, storing))
           holds
 
@@ -237,7 +237,7 @@ module _ (p q : Program) (guards : Guards p q) (given : Given) where
       lock-safe safe =
           let low : address + widthOf aim ≤ heapStart = safe-low aim (subst (Fine p) e (good .fines (s .at) inCode)) safe in
           let none : unsafeIn p (store aim b s₀) ≡ [] = safe-none p aim b s₀ safe in
-          let allowed : lets (rule₁ p) given s (store aim b s₀) ≡ true = ap (λ (us : List Unsafe). keepsTo p (s .own) us address (widthOf aim)) none in
+          let allowed : lets (rule₁ p) given s (store aim b s₀) ≡ true = ap (λ (us : List Unsafe). keepsTo p (s .own) us (spanOf (startOf (plainPieces p)) (s .temps) aim)) none in
           Lock.goes
           (stores (place (s .at)) (a (store aim b s₀) e none .inside₂) (at-new (store aim b s₀) e none) (sym (a (store aim b s₀) e none .follows))
           allowed (inside-is address (widthOf aim) (some-bytes aim) (omega arith))
@@ -255,7 +255,7 @@ module _ (p q : Program) (guards : Guards p q) (given : Given) where
         guard = checked p q guards (s .at) inCode (unsafeStore p aim s₀) (ap (unsafeIn p) e ∙ unsafe-one p aim b s₀ unsafe)
 
         lets₁ : lets (rule₁ p) given s (store aim b s₀) ≡ everyByte (widthOf aim) (inClass p (s .own) set) address
-        lets₁ = ap (λ (us : List Unsafe). keepsTo p (s .own) us address (widthOf aim)) (unsafe-one p aim b s₀ unsafe)
+        lets₁ = ap (λ (us : List Unsafe). keepsTo p (s .own) us (spanOf (startOf (plainPieces p)) (s .temps) aim)) (unsafe-one p aim b s₀ unsafe)
 
         -- the check asks what the plain rule asks
         lets₂ : lets (rule₂ q) given (placed s own) (check aim its) ≡ everyByte (widthOf aim) (inClass p (s .own) set) address

@@ -10,8 +10,8 @@ use Rattle.opcodes.specs.declared.Instr.{Instr}
 use Rattle.opcodes.specs.View.{View, act, jump, jumpIf, store, check, view}
 use Rattle.memory.specs.Memory.{inside}
 use Rattle.stops.specs.declared.Reason.{Reason}
-use Rattle.machine.specs.State.{Rule, Given, State, addressOf}
-use Rattle.machine.specs.Step.{Effect, stops, passes, completes, Next, stop, next, widthOf, conclude, effect, lets, perform, step}
+use Rattle.machine.specs.State.{Rule, Given, State, addressOf, widthOf}
+use Rattle.machine.specs.Step.{Effect, stops, passes, completes, Next, stop, next, conclude, effect, lets, perform, step}
 use Rattle.machine.proofs.Effects.{image, Follows, Alike, proper, follows-if, act-follows}
 use Rattle.plain.specs.Live.{Live}
 use Rattle.plain.specs.Demands.{Reaches, recording}

@@ -39,7 +39,7 @@ rule₂ q =
     record {
       code = q .code;
       start = startOf (piecesOf (q .objects));
-      allows = λ own v address n. tableAllows (own .0) v address n;
+      allows = λ own v span. tableAllows (own .0) v span;
       making = λ own site k. (paintMade (own .0) (colorOfObject (q .objects) site) k, liveMaking (own .1) site k);
       freeing = λ own address f. (paintFreed (own .0) f, liveFreeing (own .1) address f);
     }

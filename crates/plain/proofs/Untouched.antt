@@ -20,8 +20,8 @@ use Rattle.layout.specs.Layout.{startOf, fits}
 use Rattle.instrumenter.proofs.Guarded.{movedView, view-moved, view-check}
 use Rattle.memory.specs.Memory.{memorySize, colorAt, put, bytesOf}
 use Rattle.memory.proofs.Memory.{put-outside, length-bytesOf}
-use Rattle.machine.specs.State.{Given, State, startState, temp, addressOf}
-use Rattle.machine.specs.Step.{next, widthOf, step}
+use Rattle.machine.specs.State.{Given, State, startState, temp, addressOf, widthOf}
+use Rattle.machine.specs.Step.{next, step}
 use Rattle.start.specs.First.{firstTable}
 use Rattle.machine.specs.Colors.{tableRule}
 use Rattle.machine.proofs.Steps.{goes-in-code, store-writes}

@@ -181,7 +181,7 @@ recording rule =
     record {
       code = rule .code;
       start = rule .start;
-      allows = λ own v address n. rule .allows (own .0) v address n;
+      allows = λ own v span. rule .allows (own .0) v span;
       making = λ own site k. (rule .making (own .0) site k, liveMaking (own .1) site k);
       freeing = λ own address f. (rule .freeing (own .0) address f, liveFreeing (own .1) address f);
     }

@@ -13,7 +13,7 @@ use Rattle.coloring.specs.Class.{sameClass}
 use Rattle.layout.specs.Layout.{Piece, startOf}
 use Rattle.routines.specs.Accepted.{plainPieces}
 use Rattle.memory.specs.Memory.{everyByte}
-use Rattle.machine.specs.State.{Rule, Given}
+use Rattle.machine.specs.State.{Span, Rule, Given}
 use Rattle.machine.specs.Runs.{Outcome, runs}
 use Rattle.plain.specs.Live.{Live, owns, someLive, liveMaking, liveFreeing}
 
@@ -43,11 +43,11 @@ inClass p heap set address =
     someLive (λ o. elim (owns o address) [ true ↦ ofClass p set (o .object) | false ↦ false ]) (globals p ++ heap)
 
 -- an unsafe store keeps to its class with every byte; nothing is asked of any other instruction
-abbrev pub keepsTo : Program → (heap : List Live) → List Unsafe → (address n : ℕ) → Bool
-keepsTo p heap [] address n = true
-keepsTo p heap (u ∷ us) address n = everyByte n (inClass p heap (u .set)) address
+abbrev pub keepsTo : Program → (heap : List Live) → List Unsafe → Span → Bool
+keepsTo p heap [] span = true
+keepsTo p heap (u ∷ us) span = everyByte (span .count) (inClass p heap (u .set)) (span .address)
 
-abbrev pub plainAllows : Program → (heap : List Live) → View → (address n : ℕ) → Bool
+abbrev pub plainAllows : Program → (heap : List Live) → View → Span → Bool
 plainAllows p heap v = keepsTo p heap (unsafeIn p v)
 
 unfoldable pub plainRule : Program → Rule (List Live)
