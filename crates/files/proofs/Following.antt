@@ -8,38 +8,30 @@ use mathlib.Core.Bool.{Bool, true, false}
 use lib.ListN.{length}
 use lib.Dec.{eqb}
 use borrow.Author.Tests.{le-leb}
+use Rattle.numbers.specs.declared.Cursor.{Cursor}
 use Rattle.numbers.specs.declared.Read.{Read}
 use Rattle.opcodes.specs.declared.Operand.{Operand}
 use Rattle.opcodes.specs.declared.Instr.{Instr}
-use Rattle.opcodes.specs.Table.{rowOf, make}
+use Rattle.opcodes.specs.Table.{rowOf, operandsOf, make}
 use Rattle.opcodes.specs.Ranges.{Scope, hasSets, hasOpcode, within, isColor, present, allowed}
 use Rattle.files.specs.declared.Object.{Object}
 use Rattle.files.specs.declared.ObjectRead.{ObjectRead}
 use Rattle.files.specs.declared.InstrRead.{InstrRead}
 use Rattle.files.specs.Program.{hasColors, mostCode, longest, kindsOf}
-use Rattle.files.specs.Reading.{Reading, judged, Plan, done, on, follow, maybe, many, objectPlan, isMember, membersPlan, setPlan, setsPlan, operandPlan, instrPlan, codePlan, filePlan, readFile}
-use Rattle.files.specs.Parsing.{Parsed, got, cursor, afterColor, colorAt, afterSize, sizeAt, afterKind, readObject, objectsFrom, membersFrom, afterMemberCount, readSet, setsFrom, operandAt, afterThird, afterSecond, afterFirst, afterOpcode, readInstr, codeFrom, afterCode, afterCodeCount, afterSets, afterSetCount, afterObjects, afterObjectCount, afterVersion}
+use Rattle.files.specs.Reading.{Reading, judged, Plan, done, on, follow, maybe, many, objectPlan, isMember, membersPlan, setPlan, setsPlan, operandPlan, operandsPlan, instrPlan, codePlan, filePlan, readFile}
+use Rattle.files.specs.Parsing.{Parsed, got, cursor, afterColor, colorAt, afterSize, sizeAt, afterKind, readObject, objectsFrom, membersFrom, afterMemberCount, readSet, setsFrom, operandAt, onNumber, operandsAt, readInstr, codeFrom, afterCode, afterCodeCount, afterSets, afterSetCount, afterObjects, afterObjectCount, afterVersion}
 
 -- what becomes of a part that was read
 abbrev after : {A : Type 0} → Parsed A → (A → ℕ → Reading) → Reading
 after (got x next) f = f x next
 after (Parsed.refused q) f = Reading.refused q
 
--- the plans of an object and of an instruction, from their second number on
+-- the plan of an object, from its second number on
 abbrev colorPlan : (version kind size : ℕ) → (Object → Plan) → Plan
 colorPlan version kind size k = maybe (hasColors version) isColor λ color. k (record { kind = kind; size = size; color = color })
 
 abbrev sizePlan : (version kind : ℕ) → (Object → Plan) → Plan
 sizePlan version kind k = maybe (eqb kind 0) (within 1 4096) λ size. colorPlan version kind size k
-
-abbrev thirdPlan : Scope → (op x y : ℕ) → (Instr → Plan) → Plan
-thirdPlan scope op x y k = operandPlan scope (rowOf op .third) λ z. k (make op x y z)
-
-abbrev secondPlan : Scope → (op x : ℕ) → (Instr → Plan) → Plan
-secondPlan scope op x k = operandPlan scope (rowOf op .second) λ y. thirdPlan scope op x y k
-
-abbrev firstPlan : Scope → (op : ℕ) → (Instr → Plan) → Plan
-firstPlan scope op k = operandPlan scope (rowOf op .first) λ x. secondPlan scope op x k
 
 -- what follows the objects
 abbrev objectsPlan : (version : ℕ) → List Object → Plan
@@ -96,27 +88,25 @@ module _ (file : List ℕ) where
         → follow (operandPlan scope kind next) file at ≡ on (operandAt scope kind file at) (λ n behind. follow (next n) file behind)
     follow-operand kind next at = follow-maybe (present (scope .version) kind) (allowed scope kind) next at
 
-    third : (op x y : ℕ) (r : Read)
-        → on r (λ n behind. follow (k (make op x y n)) file behind) ≡ after (instr (afterThird op x y r)) (λ i behind. follow (k i) file behind)
-    third op x y (Read.Number n c) = refl
-    third op x y (Read.Refused q) = refl
-
-    second : (op x : ℕ) (r : Read)
-        → on r (λ n behind. follow (thirdPlan scope op x n k) file behind)
-        ≡ after (instr (afterSecond scope file op x r)) (λ i behind. follow (k i) file behind)
-    second op x (Read.Number n c) = follow-operand (rowOf op .third) _ (c .at) ∙ third op x n (operandAt scope (rowOf op .third) file (c .at))
-    second op x (Read.Refused q) = refl
-
-    first : (op : ℕ) (r : Read)
-        → on r (λ n behind. follow (secondPlan scope op n k) file behind)
-        ≡ after (instr (afterFirst scope file op r)) (λ i behind. follow (k i) file behind)
-    first op (Read.Number n c) = follow-operand (rowOf op .second) _ (c .at) ∙ second op n (operandAt scope (rowOf op .second) file (c .at))
-    first op (Read.Refused q) = refl
+    follow-operands : (kinds : List Operand) (from : Cursor) (j : List ℕ → Instr)
+        → follow (operandsPlan scope kinds (λ ns. k (j ns))) file (from .at)
+        ≡ after (instr (operandsAt scope kinds file from j)) (λ i behind. follow (k i) file behind)
+    follow-operands [] from j = refl
+    follow-operands (kind ∷ kinds) from j =
+        follow-operand kind _ (from .at)
+        ∙ go (operandAt scope kind file (from .at)) (λ n next. follow-operands kinds next (λ ns. j (n ∷ ns)))
+      where
+        go : (r : Read)
+            → ((n : ℕ) (next : Cursor) → follow (operandsPlan scope kinds (λ ns. k (j (n ∷ ns)))) file (next .at) ≡ after (instr (operandsAt scope kinds file next (λ ns. j (n ∷ ns)))) (λ i behind. follow (k i) file behind))
+            → on r (λ n behind. follow (operandsPlan scope kinds (λ ns. k (j (n ∷ ns)))) file behind)
+            ≡ after (instr (onNumber r (λ n next. operandsAt scope kinds file next (λ ns. j (n ∷ ns))))) (λ i behind. follow (k i) file behind)
+        go (Read.Number n c) more = more n c
+        go (Read.Refused q) more = refl
 
     opcode : (r : Read)
-        → on r (λ n behind. follow (firstPlan scope n k) file behind)
-        ≡ after (instr (afterOpcode scope file r)) (λ i behind. follow (k i) file behind)
-    opcode (Read.Number n c) = follow-operand (rowOf n .first) _ (c .at) ∙ first n (operandAt scope (rowOf n .first) file (c .at))
+        → on r (λ op behind. follow (operandsPlan scope (operandsOf (rowOf op)) (λ ns. k (make op ns))) file behind)
+        ≡ after (instr (onNumber r (λ op next. operandsAt scope (operandsOf (rowOf op)) file next (make op)))) (λ i behind. follow (k i) file behind)
+    opcode (Read.Number op c) = follow-operands (operandsOf (rowOf op)) c (make op)
     opcode (Read.Refused q) = refl
 
     follow-instr : (at : ℕ)

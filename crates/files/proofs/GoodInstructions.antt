@@ -60,19 +60,19 @@ module _ (p : Program) where
   pub names : (i : Instr) → goodInstr (scopeOf 1 p) i ≡ true → Names p (view i)
   names End h = tt
   names (Instr.Set d n) h = tt
-  names (Place d g) h = of-kind p 0 g (parts (Place d g) h .second)
+  names (Place d g) h = of-kind p 0 g (parts (Place d g) h .operands .1 .0)
   names (Add d a b) h = tt
   names (Sub d a b) h = tt
   names (Less d a b) h = tt
   names (Load8 d a) h = tt
   names (Load32 d a) h = tt
-  names (Put8 g k a) h = of-kind p 0 g (parts (Put8 g k a) h .first)
-  names (Put32 g k a) h = of-kind p 0 g (parts (Put32 g k a) h .first)
-  names (Write8 a b s) h = ltb-true s (length (p .sets)) (parts (Write8 a b s) h .third)
-  names (Write32 a b s) h = ltb-true s (length (p .sets)) (parts (Write32 a b s) h .third)
-  names (Jump t) h = ltb-true t (length (p .code)) (parts (Jump t) h .first)
-  names (JumpIf a t) h = ltb-true t (length (p .code)) (parts (JumpIf a t) h .second)
-  names (Alloc d g a) h = of-kind p 1 g (parts (Alloc d g a) h .second)
+  names (Put8 g k a) h = of-kind p 0 g (parts (Put8 g k a) h .operands .0)
+  names (Put32 g k a) h = of-kind p 0 g (parts (Put32 g k a) h .operands .0)
+  names (Write8 a b s) h = ltb-true s (length (p .sets)) (parts (Write8 a b s) h .operands .1 .1 .0)
+  names (Write32 a b s) h = ltb-true s (length (p .sets)) (parts (Write32 a b s) h .operands .1 .1 .0)
+  names (Jump t) h = ltb-true t (length (p .code)) (parts (Jump t) h .operands .0)
+  names (JumpIf a t) h = ltb-true t (length (p .code)) (parts (JumpIf a t) h .operands .1 .0)
+  names (Alloc d g a) h = of-kind p 1 g (parts (Alloc d g a) h .operands .1 .0)
   names (Free a) h = tt
   names (In d) h = tt
   names (Out a) h = tt

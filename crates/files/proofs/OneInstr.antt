@@ -1,6 +1,6 @@
 -- Reading one instruction, step by step, and what is known of its operands.
-use mathlib.Core.Path.{_≡_, ap, _∙_}
-use mathlib.Core.List.{List}
+use mathlib.Core.Path.{_≡_, sym, ap, _∙_}
+use mathlib.Core.List.{List, _∷_}
 use mathlib.Core.Bool.{Bool, true, false}
 use Prim.Native.Nat.{ℕ, _<_, _≤_}
 use native.Mathlib.Omega.{arith}
@@ -12,42 +12,44 @@ use Rattle.numbers.specs.declared.Read.{Read}
 use Rattle.opcodes.proofs.Bounds.{within-bounds, kind-below}
 use Rattle.instructions.proofs.Whole.{roof}
 use Rattle.opcodes.specs.declared.Operand.{Operand}
+use Rattle.opcodes.specs.declared.Row.{Row}
+use Rattle.opcodes.specs.declared.Instr.{Instr}
 use Rattle.opcodes.specs.declared.Scope as declared
 use Rattle.files.specs.declared.InstrRead.{InstrRead}
-use Rattle.opcodes.specs.Table.{rowOf, make}
+use Rattle.opcodes.specs.Table.{rowOf, operandsOf, make}
 use Rattle.opcodes.specs.Ranges.{Scope, hasSets, present, allowed, hasOpcode, scopeOver}
 use Rattle.files.specs.Reading.{judged}
 use Rattle.files.specs.Inside.{Small}
 use Rattle.files.proofs.Judging.{Field, right, field-of-read}
-use Rattle.files.specs.Parsing.{afterOpcode, afterFirst, afterSecond, afterThird, operandAt, readInstr}
+use Rattle.files.specs.Parsing.{onNumber, operandAt, operandsAt, readInstr}
 
-module _ (scope : Scope) (file : List ℕ) (at : ℕ) where
-  abbrev opcodeAt : Read
-  opcodeAt = judged 6 (hasOpcode (scope .version)) file at
+module _ (scope : Scope) (file : List ℕ) where
+  abbrev behind : (op : ℕ) → Cursor → InstrRead
+  behind op next = operandsAt scope (operandsOf (rowOf op)) file next (make op)
 
-  pub no-opcode : {q : Refusal} → opcodeAt ≡ Read.Refused q → readInstr scope file at ≡ InstrRead.Refused q
-  no-opcode e = ap (afterOpcode scope file) e
+  pub no-opcode : (at : ℕ) {q : Refusal} → judged 6 (hasOpcode (scope .version)) file at ≡ Read.Refused q → readInstr scope file at ≡ InstrRead.Refused q
+  no-opcode at e = ap (λ (r : Read). onNumber r behind) e
 
-  module _ {op : ℕ} {past : Cursor} (e : opcodeAt ≡ Read.Number op past) where
-    pub no-first : {q : Refusal} → operandAt scope (rowOf op .first) file (past .at) ≡ Read.Refused q
-        → readInstr scope file at ≡ InstrRead.Refused q
-    no-first f = ap (afterOpcode scope file) e ∙ ap (afterFirst scope file op) f
+  pub an-opcode : (at : ℕ) {op : ℕ} {past : Cursor} → judged 6 (hasOpcode (scope .version)) file at ≡ Read.Number op past
+      → readInstr scope file at ≡ operandsAt scope (operandsOf (rowOf op)) file past (make op)
+  an-opcode at e = ap (λ (r : Read). onNumber r behind) e
 
-    module _ {x : ℕ} {past-first : Cursor} (f : operandAt scope (rowOf op .first) file (past .at) ≡ Read.Number x past-first) where
-      pub no-second : {q : Refusal} → operandAt scope (rowOf op .second) file (past-first .at) ≡ Read.Refused q
-          → readInstr scope file at ≡ InstrRead.Refused q
-      no-second g = ap (afterOpcode scope file) e ∙ ap (afterFirst scope file op) f ∙ ap (afterSecond scope file op x) g
+  -- the first of the operands that are left, and those behind it
+  module _ (kind : Operand) (kinds : List Operand) (from : Cursor) (k : List ℕ → Instr) where
+    abbrev left : ℕ → Cursor → InstrRead
+    left n next = operandsAt scope kinds file next (λ ns. k (n ∷ ns))
 
-      module _ {y : ℕ} {past-second : Cursor} (g : operandAt scope (rowOf op .second) file (past-first .at) ≡ Read.Number y past-second) where
-        pub no-third : {q : Refusal} → operandAt scope (rowOf op .third) file (past-second .at) ≡ Read.Refused q
-            → readInstr scope file at ≡ InstrRead.Refused q
-        no-third h =
-            ap (afterOpcode scope file) e ∙ ap (afterFirst scope file op) f ∙ ap (afterSecond scope file op x) g ∙ ap (afterThird op x y) h
+    pub no-operand : {q : Refusal} → operandAt scope kind file (from .at) ≡ Read.Refused q → operandsAt scope (kind ∷ kinds) file from k ≡ InstrRead.Refused q
+    no-operand e = ap (λ (r : Read). onNumber r left) e
 
-        pub an-instr : {z : ℕ} {next : Cursor} → operandAt scope (rowOf op .third) file (past-second .at) ≡ Read.Number z next
-            → readInstr scope file at ≡ InstrRead.Instr (make op x y z) next
-        an-instr h =
-            ap (afterOpcode scope file) e ∙ ap (afterFirst scope file op) f ∙ ap (afterSecond scope file op x) g ∙ ap (afterThird op x y) h
+    pub an-operand : {n : ℕ} {next : Cursor} → operandAt scope kind file (from .at) ≡ Read.Number n next
+        → operandsAt scope (kind ∷ kinds) file from k ≡ operandsAt scope kinds file next (λ ns. k (n ∷ ns))
+    an-operand e = ap (λ (r : Read). onNumber r left) e
+
+-- an operand that was read by a row that is known
+pub by-row : {row known : Row} → row ≡ known → (kind : Row → Operand) (scope : Scope) (file : List ℕ) (at : ℕ) {r is : Read}
+    → r ≡ operandAt scope (kind row) file at → r ≡ is → operandAt scope (kind known) file at ≡ is
+by-row e kind scope file at p q = sym (ap (λ (row : Row). operandAt scope (kind row) file at) e) ∙ sym p ∙ q
 
 -- ---- what a number of an operand's kind lies below
 

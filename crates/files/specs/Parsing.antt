@@ -11,7 +11,7 @@ use Rattle.numbers.specs.declared.Refusal.{Refusal}
 use Rattle.numbers.specs.declared.Read.{Read}
 use Rattle.opcodes.specs.declared.Operand.{Operand}
 use Rattle.opcodes.specs.declared.Instr.{Instr}
-use Rattle.opcodes.specs.Table.{rowOf, make}
+use Rattle.opcodes.specs.Table.{rowOf, operandsOf, make}
 use Rattle.opcodes.specs.Ranges.{Scope, hasSets, hasOpcode, within, isColor, present, allowed}
 use Rattle.files.specs.declared.Object.{Object}
 use Rattle.files.specs.declared.ObjectRead.{ObjectRead}
@@ -95,24 +95,20 @@ operandAt scope kind file at =
     elim (present (scope .version) kind)
     [ true ↦ judged 6 (allowed scope kind) file at | false ↦ Read.Number 0 (cursor at) ]
 
-abbrev pub afterThird : (op x y : ℕ) → Read → InstrRead
-afterThird op x y (Read.Number z next) = InstrRead.Instr (make op x y z) next
-afterThird op x y (Read.Refused q) = InstrRead.Refused q
+abbrev pub onNumber : Read → (ℕ → Cursor → InstrRead) → InstrRead
+onNumber (Read.Number n next) f = f n next
+onNumber (Read.Refused q) f = InstrRead.Refused q
 
-abbrev pub afterSecond : Scope → List ℕ → (op x : ℕ) → Read → InstrRead
-afterSecond scope file op x (Read.Number y next) = afterThird op x y (operandAt scope (rowOf op .third) file (next .at))
-afterSecond scope file op x (Read.Refused q) = InstrRead.Refused q
-
-abbrev pub afterFirst : Scope → List ℕ → (op : ℕ) → Read → InstrRead
-afterFirst scope file op (Read.Number x next) = afterSecond scope file op x (operandAt scope (rowOf op .second) file (next .at))
-afterFirst scope file op (Read.Refused q) = InstrRead.Refused q
-
-abbrev pub afterOpcode : Scope → List ℕ → Read → InstrRead
-afterOpcode scope file (Read.Number op next) = afterFirst scope file op (operandAt scope (rowOf op .first) file (next .at))
-afterOpcode scope file (Read.Refused q) = InstrRead.Refused q
+-- the operands one after the other, and the instruction that is made of them
+abbrev pub operandsAt : Scope → List Operand → List ℕ → (from : Cursor) → (List ℕ → Instr) → InstrRead
+operandsAt scope [] file from k = InstrRead.Instr (k []) from
+operandsAt scope (kind ∷ kinds) file from k =
+    onNumber (operandAt scope kind file (from .at)) λ n next. operandsAt scope kinds file next λ ns. k (n ∷ ns)
 
 abbrev pub readInstr : Scope → List ℕ → (at : ℕ) → InstrRead
-readInstr scope file at = afterOpcode scope file (judged 6 (hasOpcode (scope .version)) file at)
+readInstr scope file at =
+    onNumber (judged 6 (hasOpcode (scope .version)) file at) λ op next.
+    operandsAt scope (operandsOf (rowOf op)) file next (make op)
 
 unfoldable pub codeFrom : (left : ℕ) → Scope → List ℕ → (at : ℕ) → (done : List Instr) → Parsed (List Instr)
 codeFrom zero scope file at done = got done at

@@ -10,7 +10,7 @@ use Rattle.numbers.specs.declared.Read.{Read}
 use Rattle.numbers.specs.Number.{readNumber}
 use Rattle.opcodes.specs.declared.Operand.{Operand}
 use Rattle.opcodes.specs.declared.Instr.{Instr}
-use Rattle.opcodes.specs.Table.{rowOf, make}
+use Rattle.opcodes.specs.Table.{rowOf, operandsOf, make}
 use Rattle.opcodes.specs.Ranges.{Scope, hasSets, hasOpcode, within, isColor, present, allowed}
 use Rattle.files.specs.declared.Object.{Object}
 use Rattle.files.specs.Program.{Program, hasColors, mostCode, longest, kindsOf}
@@ -103,13 +103,15 @@ setsPlan false objects k = k []
 abbrev pub operandPlan : Scope → Operand → (ℕ → Plan) → Plan
 operandPlan scope kind k = maybe (present (scope .version) kind) (allowed scope kind) k
 
+abbrev pub operandsPlan : Scope → List Operand → (List ℕ → Plan) → Plan
+operandsPlan scope [] k = k []
+operandsPlan scope (kind ∷ kinds) k = operandPlan scope kind λ n. operandsPlan scope kinds λ ns. k (n ∷ ns)
+
 abbrev pub instrPlan : Scope → (Instr → Plan) → Plan
 instrPlan scope k =
     ask field (hasOpcode (scope .version)) λ op.
-    operandPlan scope (rowOf op .first) λ x.
-    operandPlan scope (rowOf op .second) λ y.
-    operandPlan scope (rowOf op .third) λ z.
-    k (make op x y z)
+    operandsPlan scope (operandsOf (rowOf op)) λ ns.
+    k (make op ns)
 
 -- behind the version: "the count of objects, 0 to 400; ..; the count of sets ..; the count of instructions, 1 to
 -- 1,000, and the instructions"

@@ -10,7 +10,7 @@ use Rattle.opcodes.specs.declared.Operand.{Operand}
 use Rattle.files.specs.declared.Object.{Object}
 use Rattle.opcodes.specs.declared.Instr.{Instr}
 use Rattle.opcodes.specs.declared.Parts.{Parts}
-use Rattle.opcodes.specs.Table.{rowOf, partsOf}
+use Rattle.opcodes.specs.Table.{partsOf, operandsIn}
 use Rattle.opcodes.specs.Ranges.{Scope, hasSets, hasOpcode, within, isColor, present, allowed}
 use Rattle.files.specs.Program.{Program, hasColors, mostCode, longest, kindsOf}
 
@@ -35,12 +35,13 @@ abbrev pub spellSets : Bool → List (List ℕ) → List ℕ
 spellSets true sets = spell (length sets) ++ spellAll spellSet sets
 spellSets false sets = []
 
+-- the operands that stand in the file
+abbrev pub spellOperands : (version : ℕ) → List (Operand × ℕ) → List ℕ
+spellOperands version [] = []
+spellOperands version (o ∷ os) = spellIf (present version (o .0)) (o .1) ++ spellOperands version os
+
 abbrev pub spellParts : (version : ℕ) → Parts → List ℕ
-spellParts version p =
-    spell (p .op)
-    ++ (spellIf (present version (rowOf (p .op) .first)) (p .x)
-    ++ (spellIf (present version (rowOf (p .op) .second)) (p .y)
-    ++ spellIf (present version (rowOf (p .op) .third)) (p .z)))
+spellParts version p = spell (p .op) ++ spellOperands version (operandsIn p)
 
 abbrev pub spellInstr : (version : ℕ) → Instr → List ℕ
 spellInstr version i = spellParts version (partsOf i)
@@ -89,12 +90,12 @@ abbrev pub goodOperand : Scope → Operand → ℕ → Bool
 goodOperand scope kind n =
     elim (present (scope .version) kind) [ true ↦ allowed scope kind n | false ↦ eqb n 0 ]
 
+abbrev pub goodOperands : Scope → List (Operand × ℕ) → Bool
+goodOperands scope [] = true
+goodOperands scope (o ∷ os) = both (goodOperand scope (o .0) (o .1)) (goodOperands scope os)
+
 abbrev pub goodParts : Scope → Parts → Bool
-goodParts scope p =
-    both (hasOpcode (scope .version) (p .op))
-    (both (goodOperand scope (rowOf (p .op) .first) (p .x))
-    (both (goodOperand scope (rowOf (p .op) .second) (p .y))
-    (goodOperand scope (rowOf (p .op) .third) (p .z))))
+goodParts scope p = both (hasOpcode (scope .version) (p .op)) (goodOperands scope (operandsIn p))
 
 abbrev pub goodInstr : Scope → Instr → Bool
 goodInstr scope i = goodParts scope (partsOf i)

@@ -52,10 +52,15 @@ fn read_instr(file: &[u8], from: Cursor, kinds: &[u8], scope: Scope) -> InstrRea
     };
     let third_kind = row.third;
     let third = operand_at(file, past_second, kinds, scope, third_kind);
-    let Read::Number(z, next) = third else {
+    let Read::Number(z, past_third) = third else {
         return InstrRead::Refused(why_read(third));
     };
-    InstrRead::Instr(instr_of(op, x, y, z), next)
+    let fourth_kind = row.fourth;
+    let fourth = operand_at(file, past_third, kinds, scope, fourth_kind);
+    let Read::Number(w, next) = fourth else {
+        return InstrRead::Refused(why_read(fourth));
+    };
+    InstrRead::Instr(instr_of(op, x, y, z, w), next)
 }
 
 // One instruction at a reader's place.

@@ -4,6 +4,8 @@
 -- caller.
 --
 -- About the definitions, for the crates above: an instruction and its parts are two forms of one thing
--- (`Parting.parts-make`, `Parting.make-parts`), and operands in their ranges are held whole (`Whole.made-whole`).
+-- (`Parting.parts-make`, `Parting.make-parts`); two functions of an instruction that give the same for each opcode
+-- are equal (`Tables.agree`); and operands in their ranges are held whole (`Whole.made-whole`).
 pub mod Parting
+pub mod Tables
 pub mod Whole

@@ -1,9 +1,11 @@
 -- The field of an operand holds the whole of a number below its roof.
 use Prim.Native.Nat.{ℕ, _<_}
-use mathlib.Core.Path.{_≡_, refl, ap, _∙_}
+use mathlib.Core.Path.{_≡_, refl, ap, ap₂}
+use mathlib.Core.List.{List, [], _∷_, map}
 use native.Mathlib.Omega.{arith}
+use lib.ListN.{length}
 use Rattle.opcodes.specs.declared.Operand.{Operand}
-use Rattle.opcodes.specs.Table.{rowOf, make}
+use Rattle.opcodes.specs.Table.{rowOf, operandsOf, make, named, Each}
 use Rattle.instructions.specs.Making.{fit, made}
 
 abbrev pub roof : Operand → ℕ
@@ -28,9 +30,15 @@ fits Operand.Offset n h = omega arith
 fits Operand.Target n h = omega arith
 fits Operand.Color n h = omega arith
 
-pub made-whole : (op x y z : ℕ) → x < roof (rowOf op .first) → y < roof (rowOf op .second) → z < roof (rowOf op .third)
-    → made op x y z ≡ make op x y z
-made-whole op x y z f g h =
-    ap (λ (n : ℕ). make op n (fit (rowOf op .second) y) (fit (rowOf op .third) z)) (fits (rowOf op .first) x f)
-    ∙ ap (λ (n : ℕ). make op x n (fit (rowOf op .third) z)) (fits (rowOf op .second) y g)
-    ∙ ap (make op x y) (fits (rowOf op .third) z h)
+abbrev pub Under : Operand → ℕ → Type 0
+Under kind n = n < roof kind
+
+all-fit : (kinds : List Operand) (ns : List ℕ) → length kinds ≡ length ns → Each Under (named kinds ns)
+    → map (λ o. fit (o .0) (o .1)) (named kinds ns) ≡ ns
+all-fit [] [] e u = refl
+all-fit [] (n ∷ ns) e u = absurd (omega arith)
+all-fit (kind ∷ kinds) [] e u = absurd (omega arith)
+all-fit (kind ∷ kinds) (n ∷ ns) e u = ap₂ (λ (m : ℕ) (ms : List ℕ). m ∷ ms) (fits kind n (u .0)) (all-fit kinds ns (omega arith) (u .1))
+
+pub made-whole : (op : ℕ) (ns : List ℕ) → 4 ≡ length ns → Each Under (named (operandsOf (rowOf op)) ns) → made op ns ≡ make op ns
+made-whole op ns e u = ap (make op) (all-fit (operandsOf (rowOf op)) ns e u)

@@ -5,6 +5,7 @@
 use opcodes::Instr;
 use opcodes::Parts;
 ghost use mathlib.Core.Path.{_≡_};
+ghost use mathlib.Core.List.{[], _∷_};
 ghost use Prim.Native.Nat.{_%_};
 ghost use Rattle.instructions.specs.Making.{made};
 ghost use Rattle.opcodes.specs.Table.{partsOf};
@@ -25,8 +26,8 @@ fn low_half(n: u32) -> u16
 
 // The instruction that an opcode makes of its operands; an operand that its row lacks is not looked at, of
 // one that its field cannot hold the low bits are taken, and a number that is no opcode makes END.
-pub fn instr_of(op: u32, x: u32, y: u32, z: u32) -> Instr
-    ensures { λ r. ⌜ r ≡ made op x y z ⌝ }
+pub fn instr_of(op: u32, x: u32, y: u32, z: u32, w: u32) -> Instr
+    ensures { λ r. ⌜ r ≡ made op (x ∷ y ∷ z ∷ w ∷ []) ⌝ }
 {
     let x8 = low_byte(x);
     let y8 = low_byte(y);
@@ -61,16 +62,16 @@ pub fn instr_of(op: u32, x: u32, y: u32, z: u32) -> Instr
     }
 }
 
-// An opcode with its three operands.
+// An opcode with three operands.
 fn four(op: u32, x: u32, y: u32, z: u32) -> Parts
-    ensures { λ r. ⌜ r ≡ record { op = op; x = x; y = y; z = z } ⌝ }
+    ensures { λ r. ⌜ r ≡ record { op = op; x = x; y = y; z = z; w = 0 } ⌝ }
 {
-    Parts { op, x, y, z }
+    Parts { op, x, y, z, w: 0 }
 }
 
 // The same where every operand is a temporary or a color.
 fn small(op: u32, x: u8, y: u8, z: u8) -> Parts
-    ensures { λ r. ⌜ r ≡ record { op = op; x = x; y = y; z = z } ⌝ }
+    ensures { λ r. ⌜ r ≡ record { op = op; x = x; y = y; z = z; w = 0 } ⌝ }
 {
     four(op, x as u32, y as u32, z as u32)
 }

@@ -14,7 +14,7 @@ use Rattle.instrumenter.specs.Arrays.{checkFor, setStart, firstIn, check
 use Rattle.safety.specs.declared.Nature.{Nature}
 use Rattle.safety.specs.Nature.{natureOf, sizesIn}
 use Rattle.safety.proofs.Nature
-use Rattle.safety.proofs.Tables.{agree-on}
+use Rattle.instructions.proofs.Tables.{agree-on}
 use Rattle.opcodes.specs.Moved.{moved}
 
 -- the opcodes that are no store, and those that are copied as they are
@@ -25,10 +25,10 @@ abbrev pub copied : List ℕ
 copied = 0 ∷ 1 ∷ 2 ∷ 3 ∷ 4 ∷ 5 ∷ 6 ∷ 7 ∷ 8 ∷ 9 ∷ 14 ∷ 15 ∷ 16 ∷ 17 ∷ 18 ∷ 19 ∷ 20 ∷ 21 ∷ []
 
 pub no-store : (color : ℕ) (i : Instr) → OneOf unstored (tagOf the-type i) → checkFor (view i) color ≡ Instr.End
-no-store color = agree-on unstored (λ i. checkFor (view i) color) (λ i. Instr.End) (λ x y z. refl)
+no-store color = agree-on unstored (λ i. checkFor (view i) color) (λ i. Instr.End) (λ ns. refl)
 
 pub copied-whole : (target : ℕ → ℕ) (i : Instr) → OneOf copied (tagOf the-type i) → i ≡ moved target i
-copied-whole target = agree-on copied (λ i. i) (moved target) (λ x y z. refl)
+copied-whole target = agree-on copied (λ i. i) (moved target) (λ ns. refl)
 
 -- ---- where a set starts
 

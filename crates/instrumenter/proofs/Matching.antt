@@ -17,7 +17,7 @@ use Rattle.coloring.specs.Color.{colorOfSet}
 use Rattle.coloring.specs.Colored.{tinted}
 use Rattle.safety.specs.declared.Nature.{Nature}
 use Rattle.safety.specs.Nature.{putNature, natureOf, sizesIn}
-use Rattle.safety.proofs.Tables.{agree}
+use Rattle.instructions.proofs.Tables.{agree}
 use Rattle.coloring.proofs.Tinted.{tinted-size}
 use Rattle.instrumenter.specs.Instrumented.{checksOf, checkOf, guarded, spanOf}
 use Rattle.instrumenter.specs.Arrays.{checkFor, firstIn, checkNature, checkIn}
@@ -56,7 +56,7 @@ goal target (store aim b s) = 0
 goal target (check aim c) = 0
 
 by-goal : (target : ℕ → ℕ) (i : Instr) → moved target i ≡ moved (λ t. goal target (view i)) i
-by-goal target = agree (moved target) (λ i. moved (λ t. goal target (view i)) i) (λ x y z. refl)
+by-goal target = agree (moved target) (λ i. moved (λ t. goal target (view i)) i) (λ ns. refl)
 
 module _ (p : Program) (r : Good 1 p) (color : ℕ → ℕ) where
   -- ---- one check

@@ -11,6 +11,7 @@ use borrow.Author.Tests.{eq-eqb, ne-eqb}
 use Rattle.files.specs.declared.Object.{Object}
 use Rattle.opcodes.specs.declared.Instr.{Instr}
 use Rattle.opcodes.specs.declared.Instr.the-variants.{End, Place, Add, Sub, Less, Load8, Load32, Put8, Put32, Write8, Write32, Jump, JumpIf, Alloc, Free, In, Out, Check8, Check32, CheckPut8, CheckPut32}
+use Rattle.opcodes.specs.Table.{partsOf, operandsIn, Each}
 use Rattle.opcodes.specs.Ranges.{Scope, within, isColor, isKind}
 use Rattle.files.specs.Program.{Program, kindsOf}
 use Rattle.files.specs.Writing.{both, every, goodObject, goodInstr, scopeOf}
@@ -23,6 +24,7 @@ use Rattle.instrumenter.specs.Instrumented.{checksOf, checkOf, guarded}
 use Rattle.instrumenter.proofs.FileColors.{FileColors}
 use Rattle.files.proofs.Tests.{no-test, both-left, both-right, both-true, every-head, every-tail, every-cons, every-append}
 use Rattle.files.proofs.GoodInstructions.{Names, names}
+use Rattle.files.proofs.SpelledInstructions.{good-parts, Good as Operand-good}
 use Rattle.files.proofs.RoundTrip.{Good}
 use Rattle.opcodes.proofs.Bounds.{within-true}
 use Rattle.instrumenter.proofs.Inside.{store-unsafe}
@@ -72,6 +74,9 @@ abbrev pub newScope : Program → (lines : ℕ) → Scope
 newScope p lines = record { version = 2; kinds = kindsOf (p .objects); sets = 0; code = lines }
 
 module _ (p : Program) (r : Good 1 p) (lines : ℕ) (target : ℕ → ℕ) (inside : (t : ℕ) → ltb t (length (p .code)) ≡ true → ltb (target t) lines ≡ true) where
+  operands : (i : Instr) → goodInstr (scopeOf 1 p) i ≡ true → Each (Operand-good (scopeOf 1 p)) (operandsIn (partsOf i))
+  operands i h = good-parts (scopeOf 1 p) (partsOf i) h .operands
+
   -- the copy of an instruction
   pub good-moved : (i : Instr) → goodInstr (scopeOf 1 p) i ≡ true → goodInstr (newScope p lines) (moved target i) ≡ true
   good-moved End h = h
@@ -84,8 +89,8 @@ module _ (p : Program) (r : Good 1 p) (lines : ℕ) (target : ℕ → ℕ) (insi
   good-moved (Load32 d a) h = h
   good-moved (Put8 g k a) h = h
   good-moved (Put32 g k a) h = h
-  good-moved (Write8 a b s) h = both-true (ltb a 16) (both (ltb b 16) true) (both-left (ltb a 16) (both (ltb b 16) (ltb s (length (p .sets)))) h) (both-true (ltb b 16) true (both-left (ltb b 16) (ltb s (length (p .sets))) (both-right (ltb a 16) (both (ltb b 16) (ltb s (length (p .sets)))) h)) refl)
-  good-moved (Write32 a b s) h = both-true (ltb a 16) (both (ltb b 16) true) (both-left (ltb a 16) (both (ltb b 16) (ltb s (length (p .sets)))) h) (both-true (ltb b 16) true (both-left (ltb b 16) (ltb s (length (p .sets))) (both-right (ltb a 16) (both (ltb b 16) (ltb s (length (p .sets)))) h)) refl)
+  good-moved (Write8 a b s) h = let q = operands (Write8 a b s) h in both-true (ltb a 16) (both (ltb b 16) true) (q .0) (both-true (ltb b 16) true (q .1 .0) refl)
+  good-moved (Write32 a b s) h = let q = operands (Write32 a b s) h in both-true (ltb a 16) (both (ltb b 16) true) (q .0) (both-true (ltb b 16) true (q .1 .0) refl)
   good-moved (Jump t) h = both-true (ltb (target t) lines) true (inside t (both-left (ltb t (length (p .code))) true h)) refl
   good-moved (JumpIf a t) h = both-true (ltb a 16) (both (ltb (target t) lines) true) (both-left (ltb a 16) (both (ltb t (length (p .code))) true) h) (both-true (ltb (target t) lines) true (inside t (both-left (ltb t (length (p .code))) true (both-right (ltb a 16) (both (ltb t (length (p .code))) true) h))) refl)
   good-moved (Alloc d g a) h = h
@@ -98,18 +103,14 @@ module _ (p : Program) (r : Good 1 p) (lines : ℕ) (target : ℕ → ℕ) (insi
   good-moved (CheckPut32 g k c) h = no-test h refl
 
   -- the check of a store whose class has a color
-  put-check : (g k a : ℕ) → (c : ℕ) → within 2 255 c ≡ true → both (isKind (kindsOf (p .objects)) 0 g) (both (leb k 65535) (ltb a 16)) ≡ true
-      → both (isKind (kindsOf (p .objects)) 0 g) (both (leb k 65535) (within 2 255 c)) ≡ true
-  put-check g k a c w h =
-      both-true (isKind (kindsOf (p .objects)) 0 g) (both (leb k 65535) (within 2 255 c))
-      (both-left (isKind (kindsOf (p .objects)) 0 g) (both (leb k 65535) (ltb a 16)) h)
-      (both-true (leb k 65535) (within 2 255 c)
-      (both-left (leb k 65535) (ltb a 16) (both-right (isKind (kindsOf (p .objects)) 0 g) (both (leb k 65535) (ltb a 16)) h))
-      w)
+  put-check : (g k c : ℕ) → isKind (kindsOf (p .objects)) 0 g ≡ true → leb k 65535 ≡ true → within 2 255 c ≡ true
+      → both (isKind (kindsOf (p .objects)) 0 g) (both (leb k 65535) (both (within 2 255 c) true)) ≡ true
+  put-check g k c global offset w =
+      both-true (isKind (kindsOf (p .objects)) 0 g) (both (leb k 65535) (both (within 2 255 c) true)) global
+      (both-true (leb k 65535) (both (within 2 255 c) true) offset (both-true (within 2 255 c) true w refl))
 
-  write-check : (a c : ℕ) (rest : Bool) → within 2 255 c ≡ true → both (ltb a 16) rest ≡ true → both (ltb a 16) (both (within 2 255 c) true) ≡ true
-  write-check a c rest w h =
-      both-true (ltb a 16) (both (within 2 255 c) true) (both-left (ltb a 16) rest h) (both-true (within 2 255 c) true w refl)
+  write-check : (a c : ℕ) → ltb a 16 ≡ true → within 2 255 c ≡ true → both (ltb a 16) (both (within 2 255 c) true) ≡ true
+  write-check a c t w = both-true (ltb a 16) (both (within 2 255 c) true) t (both-true (within 2 255 c) true w refl)
 
   abbrev GoodCheck : View → Type 0
   GoodCheck (act x) = Unit
@@ -127,10 +128,10 @@ module _ (p : Program) (r : Good 1 p) (lines : ℕ) (target : ℕ → ℕ) (insi
   good-check (Less d a b) h = tt
   good-check (Load8 d a) h = tt
   good-check (Load32 d a) h = tt
-  good-check (Put8 g k a) h = λ c w. put-check g k a c w h
-  good-check (Put32 g k a) h = λ c w. put-check g k a c w h
-  good-check (Write8 a b s) h = λ c w. write-check a c (both (ltb b 16) (ltb s (length (p .sets)))) w h
-  good-check (Write32 a b s) h = λ c w. write-check a c (both (ltb b 16) (ltb s (length (p .sets)))) w h
+  good-check (Put8 g k a) h = let q = operands (Put8 g k a) h in λ c w. put-check g k c (q .0) (q .1 .0) w
+  good-check (Put32 g k a) h = let q = operands (Put32 g k a) h in λ c w. put-check g k c (q .0) (q .1 .0) w
+  good-check (Write8 a b s) h = let q = operands (Write8 a b s) h in λ c w. write-check a c (q .0) w
+  good-check (Write32 a b s) h = let q = operands (Write32 a b s) h in λ c w. write-check a c (q .0) w
   good-check (Jump t) h = tt
   good-check (JumpIf a t) h = tt
   good-check (Alloc d g a) h = tt

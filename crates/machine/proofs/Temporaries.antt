@@ -6,7 +6,7 @@
 -- the array that holds it (`narrow-held`).
 use Prim.Native.Nat.{ℕ, _<_, _≤_}
 use mathlib.Core.Path.{_≡_, sym, subst}
-use mathlib.Core.Bool.{Bool, true}
+use mathlib.Core.Bool.{true}
 use mathlib.Core.List.{List}
 use native.Mathlib.Omega.{arith}
 use lib.ListN.{length, getD}
@@ -14,10 +14,12 @@ use borrow.Author.Tests.{ltb-true}
 use Rattle.opcodes.specs.declared.Operand.{Operand}
 use Rattle.opcodes.specs.declared.Instr.{Instr}
 use Rattle.files.specs.declared.Line.{Line}
-use Rattle.opcodes.specs.Table.{rowOf, partsOf}
-use Rattle.opcodes.specs.Ranges.{Scope, hasOpcode}
-use Rattle.files.specs.Writing.{both, every, goodOperand, goodInstr}
-use Rattle.files.proofs.Tests.{both-left, both-right, every-at}
+use Rattle.opcodes.specs.Table.{partsOf, operandsIn}
+use Rattle.opcodes.specs.Ranges.{Scope}
+use Rattle.opcodes.proofs.Operands.{each-then}
+use Rattle.files.specs.Writing.{every, goodOperand, goodInstr}
+use Rattle.files.proofs.SpelledInstructions.{good-parts}
+use Rattle.files.proofs.Tests.{every-at}
 use Rattle.machine.specs.Turn.{NarrowOperand, Narrow, AllNarrow}
 use Rattle.stops.specs.Held.{codeOf}
 use Rattle.stops.proofs.Places.{code-length, code-at}
@@ -35,29 +37,7 @@ narrow-operand scope Operand.Color x e = tt
 
 narrow-instr : (scope : Scope) (i : Instr) → goodInstr scope i ≡ true → Narrow 16 i
 narrow-instr scope i e =
-    record {
-      first = narrow-operand scope (rowOf (partsOf i .op) .first) (partsOf i .x) (both-left first rest operands);
-      second = narrow-operand scope (rowOf (partsOf i .op) .second) (partsOf i .y) (both-left second third others);
-      third = narrow-operand scope (rowOf (partsOf i .op) .third) (partsOf i .z) (both-right second third others);
-    }
-  where
-    first : Bool
-    first = goodOperand scope (rowOf (partsOf i .op) .first) (partsOf i .x)
-
-    second : Bool
-    second = goodOperand scope (rowOf (partsOf i .op) .second) (partsOf i .y)
-
-    third : Bool
-    third = goodOperand scope (rowOf (partsOf i .op) .third) (partsOf i .z)
-
-    rest : Bool
-    rest = both second third
-
-    operands : both first rest ≡ true
-    operands = both-right (hasOpcode (scope .version) (partsOf i .op)) (both first rest) e
-
-    others : both second third ≡ true
-    others = both-right first rest operands
+    record { each = each-then (narrow-operand scope) (operandsIn (partsOf i)) (good-parts scope (partsOf i) e .operands) }
 
 pub narrow-code : (scope : Scope) (code : List Instr) → every (goodInstr scope) code ≡ true → AllNarrow code
 narrow-code scope code good at h =

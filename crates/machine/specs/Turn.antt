@@ -8,7 +8,7 @@ use lib.ListN.{length, getD, set, take, drop, replicate}
 use lib.Dec.{ltb, eqb}
 use Rattle.opcodes.specs.declared.Operand.{Operand}
 use Rattle.opcodes.specs.declared.Instr.{Instr}
-use Rattle.opcodes.specs.Table.{rowOf, partsOf}
+use Rattle.opcodes.specs.Table.{partsOf, operandsIn, Each}
 use Rattle.opcodes.specs.View.{view}
 use Rattle.memory.specs.Memory.{memorySize, tableSize}
 use Rattle.heap.specs.Heap.{paintMade, paintFreed}
@@ -115,9 +115,7 @@ NarrowOperand n Operand.Color x = Unit {0}
 
 -- each temporary that an instruction names is one of n
 pub record Narrow (n : ℕ) (i : Instr) : Type 0 where
-  pub first : NarrowOperand n (rowOf (partsOf i .op) .first) (partsOf i .x)
-  pub second : NarrowOperand n (rowOf (partsOf i .op) .second) (partsOf i .y)
-  pub third : NarrowOperand n (rowOf (partsOf i .op) .third) (partsOf i .z)
+  pub each : Each (NarrowOperand n) (operandsIn (partsOf i))
 
 -- the same of all code: there are 16
 abbrev pub AllNarrow : List Instr → Type 0

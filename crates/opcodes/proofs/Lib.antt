@@ -4,5 +4,7 @@
 -- given; nothing is asked of a caller. The constant table of the code is the definition's, row by row
 -- (`table.row_of`).
 --
--- About the definitions, for the crates above: what a number that passes a test lies between or names (`Bounds`).
+-- About the definitions, for the crates above: what a number that passes a test lies between or names (`Bounds`); what holds
+-- of each operand (`Operands`).
 pub mod Bounds
+pub mod Operands

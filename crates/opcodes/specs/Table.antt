@@ -9,8 +9,8 @@ use Rattle.opcodes.specs.declared.Parts.{Parts}
 use Rattle.opcodes.specs.declared.Instr.{Instr}
 use Rattle.opcodes.specs.declared.Instr.the-variants.{End, Place, Add, Sub, Less, Load8, Load32, Put8, Put32, Write8, Write32, Jump, JumpIf, Alloc, Free, In, Out, Check8, Check32, CheckPut8, CheckPut32}
 
-abbrev row : Group → Operand → Operand → Operand → Row
-row group x y z = record { group = group; first = x; second = y; third = z }
+abbrev row : Group → (x y z w : Operand) → Row
+row group x y z w = record { group = group; first = x; second = y; third = z; fourth = w }
 
 abbrev plain : Group
 plain = Group.Plain
@@ -28,87 +28,119 @@ temp = Operand.Temporary
 -- Global or a Site, k an Offset, s a Set, p a Target, c a Color
 abbrev pub rows : List Row
 rows =
-    row plain none none none
-    ∷ row plain temp Operand.Number none
-    ∷ row plain temp Operand.Global none
-    ∷ row plain temp temp temp
-    ∷ row plain temp temp temp
-    ∷ row plain temp temp temp
-    ∷ row plain temp temp none
-    ∷ row plain temp temp none
-    ∷ row plain Operand.Global Operand.Offset temp
-    ∷ row plain Operand.Global Operand.Offset temp
-    ∷ row plain temp temp Operand.Set
-    ∷ row plain temp temp Operand.Set
-    ∷ row plain Operand.Target none none
-    ∷ row plain temp Operand.Target none
-    ∷ row plain temp Operand.Site temp
-    ∷ row plain temp none none
-    ∷ row plain temp none none
-    ∷ row plain temp none none
-    ∷ row check temp Operand.Color none
-    ∷ row check temp Operand.Color none
-    ∷ row check Operand.Global Operand.Offset Operand.Color
-    ∷ row check Operand.Global Operand.Offset Operand.Color
+    row plain none none none none
+    ∷ row plain temp Operand.Number none none
+    ∷ row plain temp Operand.Global none none
+    ∷ row plain temp temp temp none
+    ∷ row plain temp temp temp none
+    ∷ row plain temp temp temp none
+    ∷ row plain temp temp none none
+    ∷ row plain temp temp none none
+    ∷ row plain Operand.Global Operand.Offset temp none
+    ∷ row plain Operand.Global Operand.Offset temp none
+    ∷ row plain temp temp Operand.Set none
+    ∷ row plain temp temp Operand.Set none
+    ∷ row plain Operand.Target none none none
+    ∷ row plain temp Operand.Target none none
+    ∷ row plain temp Operand.Site temp none
+    ∷ row plain temp none none none
+    ∷ row plain temp none none none
+    ∷ row plain temp none none none
+    ∷ row check temp Operand.Color none none
+    ∷ row check temp Operand.Color none none
+    ∷ row check Operand.Global Operand.Offset Operand.Color none
+    ∷ row check Operand.Global Operand.Offset Operand.Color none
     ∷ []
 
 abbrev pub rowOf : ℕ → Row
-rowOf op = getD rows op (row plain none none none)
+rowOf op = getD rows op (row plain none none none none)
+
+-- the operands of a row in the order of the file, none behind the last
+abbrev pub operandsOf : Row → List Operand
+operandsOf r = r .first ∷ r .second ∷ r .third ∷ r .fourth ∷ []
+
+-- an instruction of its first operands
+abbrev of1 : (ℕ → Instr) → List ℕ → Instr
+of1 instr ns = instr (getD ns 0 0)
+
+abbrev of2 : (ℕ → ℕ → Instr) → List ℕ → Instr
+of2 instr ns = instr (getD ns 0 0) (getD ns 1 0)
+
+abbrev of3 : (ℕ → ℕ → ℕ → Instr) → List ℕ → Instr
+of3 instr ns = instr (getD ns 0 0) (getD ns 1 0) (getD ns 2 0)
 
 -- the instruction that an opcode makes of its operands; an operand that the row lacks is not looked at
-abbrev pub makers : List (ℕ → ℕ → ℕ → Instr)
+abbrev pub makers : List (List ℕ → Instr)
 makers =
-    (λ x y z. End)
-    ∷ (λ x y z. Instr.Set x y)
-    ∷ (λ x y z. Place x y)
-    ∷ (λ x y z. Add x y z)
-    ∷ (λ x y z. Sub x y z)
-    ∷ (λ x y z. Less x y z)
-    ∷ (λ x y z. Load8 x y)
-    ∷ (λ x y z. Load32 x y)
-    ∷ (λ x y z. Put8 x y z)
-    ∷ (λ x y z. Put32 x y z)
-    ∷ (λ x y z. Write8 x y z)
-    ∷ (λ x y z. Write32 x y z)
-    ∷ (λ x y z. Jump x)
-    ∷ (λ x y z. JumpIf x y)
-    ∷ (λ x y z. Alloc x y z)
-    ∷ (λ x y z. Free x)
-    ∷ (λ x y z. In x)
-    ∷ (λ x y z. Out x)
-    ∷ (λ x y z. Check8 x y)
-    ∷ (λ x y z. Check32 x y)
-    ∷ (λ x y z. CheckPut8 x y z)
-    ∷ (λ x y z. CheckPut32 x y z)
+    (λ ns. End)
+    ∷ of2 Instr.Set
+    ∷ of2 Place
+    ∷ of3 Add
+    ∷ of3 Sub
+    ∷ of3 Less
+    ∷ of2 Load8
+    ∷ of2 Load32
+    ∷ of3 Put8
+    ∷ of3 Put32
+    ∷ of3 Write8
+    ∷ of3 Write32
+    ∷ of1 Jump
+    ∷ of2 JumpIf
+    ∷ of3 Alloc
+    ∷ of1 Free
+    ∷ of1 In
+    ∷ of1 Out
+    ∷ of2 Check8
+    ∷ of2 Check32
+    ∷ of3 CheckPut8
+    ∷ of3 CheckPut32
     ∷ []
 
-abbrev pub make : (op x y z : ℕ) → Instr
-make op = getD makers op (λ x y z. End)
+abbrev pub make : (op : ℕ) → List ℕ → Instr
+make op = getD makers op (λ ns. End)
 
-abbrev parts4 : (op x y z : ℕ) → Parts
-parts4 op x y z = record { op = op; x = x; y = y; z = z }
+-- an opcode with its operands, 0 where there is none
+abbrev pub partsIn : (op : ℕ) → List ℕ → Parts
+partsIn op ns = record { op = op; x = getD ns 0 0; y = getD ns 1 0; z = getD ns 2 0; w = getD ns 3 0 }
 
--- an instruction's opcode and operands, 0 where there is none
+abbrev pub numbersOf : Parts → List ℕ
+numbersOf p = p .x ∷ p .y ∷ p .z ∷ p .w ∷ []
+
+-- an instruction taken apart
 abbrev pub partsOf : Instr → Parts
-partsOf End = parts4 0 0 0 0
-partsOf (Instr.Set d n) = parts4 1 d n 0
-partsOf (Place d g) = parts4 2 d g 0
-partsOf (Add d a b) = parts4 3 d a b
-partsOf (Sub d a b) = parts4 4 d a b
-partsOf (Less d a b) = parts4 5 d a b
-partsOf (Load8 d a) = parts4 6 d a 0
-partsOf (Load32 d a) = parts4 7 d a 0
-partsOf (Put8 g k a) = parts4 8 g k a
-partsOf (Put32 g k a) = parts4 9 g k a
-partsOf (Write8 a b s) = parts4 10 a b s
-partsOf (Write32 a b s) = parts4 11 a b s
-partsOf (Jump p) = parts4 12 p 0 0
-partsOf (JumpIf a p) = parts4 13 a p 0
-partsOf (Alloc d g a) = parts4 14 d g a
-partsOf (Free a) = parts4 15 a 0 0
-partsOf (In d) = parts4 16 d 0 0
-partsOf (Out a) = parts4 17 a 0 0
-partsOf (Check8 a c) = parts4 18 a c 0
-partsOf (Check32 a c) = parts4 19 a c 0
-partsOf (CheckPut8 g k c) = parts4 20 g k c
-partsOf (CheckPut32 g k c) = parts4 21 g k c
+partsOf End = partsIn 0 []
+partsOf (Instr.Set d n) = partsIn 1 (d ∷ n ∷ [])
+partsOf (Place d g) = partsIn 2 (d ∷ g ∷ [])
+partsOf (Add d a b) = partsIn 3 (d ∷ a ∷ b ∷ [])
+partsOf (Sub d a b) = partsIn 4 (d ∷ a ∷ b ∷ [])
+partsOf (Less d a b) = partsIn 5 (d ∷ a ∷ b ∷ [])
+partsOf (Load8 d a) = partsIn 6 (d ∷ a ∷ [])
+partsOf (Load32 d a) = partsIn 7 (d ∷ a ∷ [])
+partsOf (Put8 g k a) = partsIn 8 (g ∷ k ∷ a ∷ [])
+partsOf (Put32 g k a) = partsIn 9 (g ∷ k ∷ a ∷ [])
+partsOf (Write8 a b s) = partsIn 10 (a ∷ b ∷ s ∷ [])
+partsOf (Write32 a b s) = partsIn 11 (a ∷ b ∷ s ∷ [])
+partsOf (Jump p) = partsIn 12 (p ∷ [])
+partsOf (JumpIf a p) = partsIn 13 (a ∷ p ∷ [])
+partsOf (Alloc d g a) = partsIn 14 (d ∷ g ∷ a ∷ [])
+partsOf (Free a) = partsIn 15 (a ∷ [])
+partsOf (In d) = partsIn 16 (d ∷ [])
+partsOf (Out a) = partsIn 17 (a ∷ [])
+partsOf (Check8 a c) = partsIn 18 (a ∷ c ∷ [])
+partsOf (Check32 a c) = partsIn 19 (a ∷ c ∷ [])
+partsOf (CheckPut8 g k c) = partsIn 20 (g ∷ k ∷ c ∷ [])
+partsOf (CheckPut32 g k c) = partsIn 21 (g ∷ k ∷ c ∷ [])
+
+-- the operands of an instruction, each with what it names
+abbrev pub named : List Operand → List ℕ → List (Operand × ℕ)
+named [] ns = []
+named (kind ∷ kinds) [] = []
+named (kind ∷ kinds) (n ∷ ns) = (kind, n) ∷ named kinds ns
+
+abbrev pub operandsIn : Parts → List (Operand × ℕ)
+operandsIn p = named (operandsOf (rowOf (p .op))) (numbersOf p)
+
+-- what holds of each of them
+abbrev pub Each : (Operand → ℕ → Type 0) → List (Operand × ℕ) → Type 0
+Each P [] = Unit {0}
+Each P (o ∷ os) = P (o .0) (o .1) × Each P os

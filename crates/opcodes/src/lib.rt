@@ -31,6 +31,7 @@ pub struct Row {
     pub first: Operand,
     pub second: Operand,
     pub third: Operand,
+    pub fourth: Operand,
 }
 
 // An instruction with its operands as data. In version 2 a WRITE has no set: the field is 0.
@@ -65,6 +66,7 @@ pub struct Parts {
     pub x: u32,
     pub y: u32,
     pub z: u32,
+    pub w: u32,
 }
 
 // What the operands of an instruction may name, beside the objects' kinds.

@@ -2,21 +2,21 @@
 use Prim.Native.Nat.{ℕ, _≤_, _<_}
 use native.Mathlib.Omega.{arith}
 use mathlib.Core.Path.{_≡_, refl}
-use mathlib.Core.List.{List}
+use mathlib.Core.List.{List, [], _∷_}
 use lib.ListN.{getD}
 use borrow.Author.Tests.{lt-ltb, le-ltb}
 use Rattle.opcodes.specs.declared.Instr.{Instr}
 use Rattle.opcodes.specs.declared.Parts.{Parts}
-use Rattle.opcodes.specs.Table.{make, partsOf}
+use Rattle.opcodes.specs.Table.{make, numbersOf, partsOf}
 use Rattle.opcodes.specs.View.{view}
 use Rattle.instructions.proofs.Parting.{make-parts}
 use Rattle.safety.specs.declared.Nature.{Nature}
 use Rattle.safety.specs.Nature.{putNature, natureOf, sizesIn}
-use Rattle.safety.proofs.Tables.{alike, past, agree}
+use Rattle.instructions.proofs.Tables.{alike, past, agree}
 
-module _ (size : ℕ → ℕ) (x y z : ℕ) where
+module _ (size : ℕ → ℕ) (x y z w : ℕ) where
   abbrev made : (op : ℕ) → Nature
-  made op = natureOf size (view (make op x y z))
+  made op = natureOf size (view (make op (x ∷ y ∷ z ∷ w ∷ [])))
 
   pub at-8 : (op : ℕ) → op ≡ 8 → made op ≡ putNature (size x) x y 1
   at-8 op e = rw e
@@ -44,14 +44,14 @@ module _ (size : ℕ → ℕ) (x y z : ℕ) where
   at-between = alike made (λ op. Nature.Other) 14 4 refl
 
   pub at-past : (op : ℕ) → 22 ≤ op → made op ≡ Nature.Other
-  at-past op h = past (λ i. natureOf size (view i)) op x y z h
+  at-past op h = past (λ i. natureOf size (view i)) op (x ∷ y ∷ z ∷ w ∷ []) h
 
 -- only the size of the first operand is looked at
 nature-size : (f : ℕ → ℕ) (i : Instr) → natureOf (λ g. f (partsOf i .x)) (view i) ≡ natureOf f (view i)
-nature-size f = agree (λ i. natureOf (λ g. f (partsOf i .x)) (view i)) (λ i. natureOf f (view i)) (λ x y z. refl)
+nature-size f = agree (λ i. natureOf (λ g. f (partsOf i .x)) (view i)) (λ i. natureOf f (view i)) (λ ns. refl)
 
 pub nature-whole : (f : ℕ → ℕ) (i : Instr) (r : Parts) (size : ℕ) → r ≡ partsOf i → size ≡ f (r .x)
-    → natureOf (λ g. size) (view (make (r .op) (r .x) (r .y) (r .z))) ≡ natureOf f (view i)
+    → natureOf (λ g. size) (view (make (r .op) (numbersOf r))) ≡ natureOf f (view i)
 nature-whole f i r size e s = rw s (rw e (rw (make-parts i) (nature-size f i)))
 
 pub sizes-inside : (l : List ℕ) (g : ℕ) → g < 400 → sizesIn l g ≡ getD l g 0

@@ -5,6 +5,7 @@
 use instructions::parts_of;
 use opcodes::Instr;
 ghost use mathlib.Core.Path.{_≡_};
+ghost use mathlib.Core.List.{[], _∷_};
 ghost use Rattle.opcodes.specs.Table.{make};
 ghost use Rattle.opcodes.specs.View.{view};
 ghost use Rattle.safety.specs.Nature.{putNature, natureOf, sizesIn};
@@ -38,8 +39,8 @@ fn put(g: u32, k: u32, bytes: u32, size: u16) -> Nature
 
 // What the instruction with this opcode number and these operands is; `size` is the size of the
 // global that a PUT names.
-pub fn by_opcode(opcode: u32, x: u32, y: u32, z: u32, size: u16) -> Nature
-    ensures { λ r. ⌜ r ≡ natureOf (λ g. size) (view (make opcode x y z)) ⌝ }
+pub fn by_opcode(opcode: u32, x: u32, y: u32, z: u32, w: u32, size: u16) -> Nature
+    ensures { λ r. ⌜ r ≡ natureOf (λ g. size) (view (make opcode (x ∷ y ∷ z ∷ w ∷ []))) ⌝ }
 {
     match opcode {
         8 => put(x, y, 1, size),
@@ -59,5 +60,5 @@ pub fn nature_of(i: Instr, sizes: &[u16; 400]) -> Nature
     let parts = parts_of(i);
     let g = parts.x as usize;
     let size = if g < 400 { sizes[g] } else { 0 };
-    by_opcode(parts.op, parts.x, parts.y, parts.z, size)
+    by_opcode(parts.op, parts.x, parts.y, parts.z, parts.w, size)
 }

@@ -99,7 +99,7 @@ opcodes-is-allowed-once kinds scope kind n = once
 -- ---- instructions
 
 pub instructions-instr-of-once : instructions-instr-of
-instructions-instr-of-once op x y z = once
+instructions-instr-of-once op x y z w = once
 
 pub instructions-parts-of-once : instructions-parts-of
 instructions-parts-of-once i = once
@@ -123,7 +123,7 @@ writer-write-program-once p room = pair-once
 -- ---- safety
 
 pub safety-by-opcode-once : safety-by-opcode
-safety-by-opcode-once opcode x y z size = once
+safety-by-opcode-once opcode x y z w size = once
 
 pub safety-nature-of-once : safety-nature-of
 safety-nature-of-once i sizes = once

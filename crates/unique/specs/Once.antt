@@ -3,7 +3,7 @@
 -- name is what it holds before, and the name with a mark what it holds afterwards.
 use Prim.Native.Nat.{ℕ}
 use mathlib.Core.Path.{_≡_}
-use mathlib.Core.List.{List}
+use mathlib.Core.List.{List, [], _∷_}
 use mathlib.Core.Bool.{Bool}
 use lib.ListN.{length, replicate}
 use denote.Ref.{RefT, now}
@@ -99,7 +99,7 @@ opcodes-is-allowed =
 -- ---- instructions
 
 abbrev pub instructions-instr-of : Type 0
-instructions-instr-of = (op x y z : ℕ) → Once (λ r. r ≡ made op x y z)
+instructions-instr-of = (op x y z w : ℕ) → Once (λ r. r ≡ made op (x ∷ y ∷ z ∷ w ∷ []))
 
 abbrev pub instructions-parts-of : Type 0
 instructions-parts-of = (i : Instr) → Once (λ r. r ≡ partsOf i)
@@ -125,7 +125,7 @@ writer-write-program =
 -- ---- safety
 
 abbrev pub safety-by-opcode : Type 0
-safety-by-opcode = (opcode x y z size : ℕ) → Once (λ r. r ≡ natureOf (λ g. size) (view (make opcode x y z)))
+safety-by-opcode = (opcode x y z w size : ℕ) → Once (λ r. r ≡ natureOf (λ g. size) (view (make opcode (x ∷ y ∷ z ∷ w ∷ []))))
 
 abbrev pub safety-nature-of : Type 0
 safety-nature-of = (i : Instr) (sizes : List ℕ) → Once (λ r. r ≡ natureOf (sizesIn sizes) (view i))

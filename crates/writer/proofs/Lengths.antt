@@ -12,11 +12,12 @@ use Rattle.numbers.specs.Number.{spell, width}
 use Rattle.numbers.proofs.Laws.{width-most}
 use Rattle.writer.specs.declared.measuring.Length.{Length}
 use Rattle.files.specs.declared.Object.{Object}
+use Rattle.opcodes.specs.declared.Operand.{Operand}
 use Rattle.opcodes.specs.declared.Instr.{Instr}
 use Rattle.opcodes.specs.declared.Parts.{Parts}
-use Rattle.opcodes.specs.Table.{partsOf, rowOf}
+use Rattle.opcodes.specs.Table.{partsOf, operandsIn}
 use Rattle.opcodes.specs.Ranges.{Scope, present, within, isColor, hasOpcode}
-use Rattle.files.specs.Writing.{spellIf, spellAll, spellObject, spellInstr, spellParts, every, both, goodObject, goodOperand, goodParts}
+use Rattle.files.specs.Writing.{spellIf, spellAll, spellObject, spellOperands, spellInstr, spellParts, every, both, goodObject, goodOperand, goodOperands, goodParts}
 use Rattle.writer.specs.Inside.{measured}
 use Rattle.files.proofs.Tests.{both-are, both-no, both-then, every-more, every-stops}
 
@@ -80,43 +81,36 @@ module _ (kind size color : ℕ) where
       ∙ ap (λ (n : ℕ). width kind + n) (length-append (spellIf (eqb kind 0) size) (spell color))
       ∙ (let e : length (spellIf (eqb kind 0) size) ≡ 0 = ap (λ (b : Bool). length (spellIf b size)) (ne-eqb kind 0 z) in omega arith)
 
--- ---- an instruction, by its parts
+-- ---- an instruction, by its operands
 
-pub parts-length : (version : ℕ) (q : Parts)
-    → length (spellParts version q)
-    ≡ width (q .op) + length (spellIf (present version (rowOf (q .op) .first)) (q .x))
-    + length (spellIf (present version (rowOf (q .op) .second)) (q .y)) + length (spellIf (present version (rowOf (q .op) .third)) (q .z))
+-- the lengths of those that stand in the file
+abbrev pub lengths : (version : ℕ) → List (Operand × ℕ) → ℕ
+lengths version [] = 0
+lengths version (o ∷ os) = length (spellIf (present version (o .0)) (o .1)) + lengths version os
+
+operands-length : (version : ℕ) (os : List (Operand × ℕ)) → length (spellOperands version os) ≡ lengths version os
+operands-length version [] = refl
+operands-length version (o ∷ os) =
+    let this : List ℕ = spellIf (present version (o .0)) (o .1) in
+    length-append this (spellOperands version os) ∙ ap (λ (n : ℕ). length this + n) (operands-length version os)
+
+pub parts-length : (version : ℕ) (q : Parts) → length (spellParts version q) ≡ width (q .op) + lengths version (operandsIn q)
 parts-length version q =
-    let a = spellIf (present version (rowOf (q .op) .first)) (q .x) in
-    let b = spellIf (present version (rowOf (q .op) .second)) (q .y) in
-    let c = spellIf (present version (rowOf (q .op) .third)) (q .z) in
-    length-append (spell (q .op)) (a ++ (b ++ c))
-    ∙ ap (λ (n : ℕ). width (q .op) + n) (length-append a (b ++ c) ∙ ap (λ (n : ℕ). length a + n) (length-append b c)) ∙ omega arith
+    length-append (spell (q .op)) (spellOperands version (operandsIn q))
+    ∙ ap (λ (n : ℕ). width (q .op) + n) (operands-length version (operandsIn q))
 
-module _ (scope : Scope) (q : Parts) where
-  abbrev last : Bool
-  last = hasOpcode (scope .version) (q .op)
+module _ (scope : Scope) where
+  pub bad-opcode : (q : Parts) → hasOpcode (scope .version) (q .op) ≡ false → goodParts scope q ≡ false
+  bad-opcode q p = both-no {a = hasOpcode (scope .version) (q .op)} (goodOperands scope (operandsIn q)) p
 
-  abbrev one : Bool
-  one = goodOperand scope (rowOf (q .op) .first) (q .x)
+  pub bad-operands : (q : Parts) → goodOperands scope (operandsIn q) ≡ false → goodParts scope q ≡ false
+  bad-operands q p = both-then (hasOpcode (scope .version) (q .op)) p
 
-  abbrev two : Bool
-  two = goodOperand scope (rowOf (q .op) .second) (q .y)
-
-  abbrev three : Bool
-  three = goodOperand scope (rowOf (q .op) .third) (q .z)
-
-  pub bad-opcode : hasOpcode (scope .version) (q .op) ≡ false → goodParts scope q ≡ false
-  bad-opcode p = both-no {a = last} (both one (both two three)) p
-
-  pub bad-first : goodOperand scope (rowOf (q .op) .first) (q .x) ≡ false → goodParts scope q ≡ false
-  bad-first p = both-then last (both-no {a = one} (both two three) p)
-
-  pub bad-second : goodOperand scope (rowOf (q .op) .second) (q .y) ≡ false → goodParts scope q ≡ false
-  bad-second p = both-then last (both-then one (both-no {a = two} three p))
-
-  pub bad-third : goodOperand scope (rowOf (q .op) .third) (q .z) ≡ false → goodParts scope q ≡ false
-  bad-third p = both-then last (both-then one (both-then two p))
+  -- one that is bad, whatever stands before and behind it
+  pub bad-operand : (before : List (Operand × ℕ)) (kind : Operand) (n : ℕ) (behind : List (Operand × ℕ)) → goodOperand scope kind n ≡ false
+      → goodOperands scope (before ++ (kind, n) ∷ behind) ≡ false
+  bad-operand [] kind n behind p = both-no {a = goodOperand scope kind n} (goodOperands scope behind) p
+  bad-operand (o ∷ os) kind n behind p = both-then (goodOperand scope (o .0) (o .1)) (bad-operand os kind n behind p)
 
 -- ---- lengths stay small
 
@@ -131,14 +125,14 @@ object-length version o =
     let c = field-length (lib.Dec.eqb version 2) (o .color) in
     rw (length-append, length-append) (omega arith)
 
-pub instr-length : (version : ℕ) (i : Instr) → length (spellInstr version i) ≤ 20
+lengths-most : (version : ℕ) (os : List (Operand × ℕ)) → lengths version os ≤ 5 * length os
+lengths-most version [] = omega arith
+lengths-most version (o ∷ os) = omega (arith, field-length (present version (o .0)) (o .1), lengths-most version os)
+
+pub instr-length : (version : ℕ) (i : Instr) → length (spellInstr version i) ≤ 25
 instr-length version i =
     let q = partsOf i in
-    let a = width-most (q .op) in
-    let b = field-length (present version (rowOf (q .op) .first)) (q .x) in
-    let c = field-length (present version (rowOf (q .op) .second)) (q .y) in
-    let d = field-length (present version (rowOf (q .op) .third)) (q .z) in
-    rw (length-append, length-append, length-append) (omega arith)
+    omega (arith, parts-length version q, width-most (q .op), lengths-most version (operandsIn q))
 
 -- ---- a loop that adds up
 

@@ -26,6 +26,14 @@ then {before} {at} {middle} {place} a b p q =
       ends = rw length-append (omega (arith, p .ends, q .ends));
     }
 
+pub put-as : {before : List ℕ} {at : ℕ} {a b after : List ℕ} {place : ℕ} → a ≡ b → (place ≡ at + length a) × (after ≡ sets before at a) → Put before at b after place
+put-as {before} {at} e p =
+    record { room = p .1 ∙ ap (sets before at) e; ends = p .0 ∙ ap (λ (l : List ℕ). at + length l) e }
+
+-- nothing was put
+pub put-none : (room : List ℕ) (at : ℕ) → Put room at [] room at
+put-none room at = record { room = refl; ends = omega arith }
+
 -- what is left to put fits where the whole did
 pub fits-then : {before : List ℕ} {at : ℕ} {middle : List ℕ} {place : ℕ} (a b : List ℕ) → at + length (a ++ b) ≤ length before
     → Put before at a middle place → place + length b ≤ length middle

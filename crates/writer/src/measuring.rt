@@ -68,7 +68,12 @@ fn instr_length(kinds: &[u8], scope: Scope, instr: Instr) -> Length
     let Length::Good(z) = third else {
         return Length::Bad;
     };
-    Length::Good(numbers::number_width(parts.op) + x + y + z)
+    let fourth_kind = row.fourth;
+    let fourth = operand_length(kinds, scope, fourth_kind, parts.w);
+    let Length::Good(w) = fourth else {
+        return Length::Bad;
+    };
+    Length::Good(numbers::number_width(parts.op) + x + y + z + w)
 }
 
 // As many instructions as the scope says.
@@ -139,7 +144,7 @@ fn lines_length(count: usize, kinds: [u8; 400], scope: Scope, code: [Line; 2000]
 
 // The version and the counts besides the objects and the instructions.
 fn with_counts(count: usize, objects: usize, lines: usize, instrs: usize) -> usize
-    requires { ⌜ (count ≤ 400) × (objects ≤ 6000) × (lines ≤ 2000) × (instrs ≤ 40000) ⌝ }
+    requires { ⌜ (count ≤ 400) × (objects ≤ 6000) × (lines ≤ 2000) × (instrs ≤ 50000) ⌝ }
     ensures { λ r. ⌜ r ≡ width 2 + width count + objects + width lines + instrs ⌝ }
 {
     numbers::number_width(2)

@@ -61,10 +61,12 @@ fn put_instr(room: &mut [u8], at: usize, instr: Instr) -> usize
     let first = row.first;
     let second = row.second;
     let third = row.third;
+    let fourth = row.fourth;
     let past_op = put(room, at, parts.op);
     let past_x = put_if(room, past_op, is_present(2, first), parts.x);
     let past_y = put_if(room, past_x, is_present(2, second), parts.y);
-    put_if(room, past_y, is_present(2, third), parts.z)
+    let past_z = put_if(room, past_y, is_present(2, third), parts.z);
+    put_if(room, past_z, is_present(2, fourth), parts.w)
 }
 
 // `count` objects.

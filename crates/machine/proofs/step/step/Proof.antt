@@ -36,7 +36,7 @@ becomes-requires : tie.Need-becomes-requires
 becomes-requires c κs = let k = c .before .before in
     let s = k .before .before .before .before .before .before .before .before .before in
     let n = narrow s (k .i .given .1) in
-    (s .pre .1 .counts, n .first)
+    (s .pre .1 .counts, n .each .0)
 
 enum-known-i-2 : tie.Need-enum-known-i-2
 enum-known-i-2 c = search needs
@@ -48,7 +48,7 @@ becomes-requires-2 : tie.Need-becomes-requires-2
 becomes-requires-2 c κs = let k = c .before .before .before in
     let s = k .before .before .before .before .before .before .before .before .before in
     let n = narrow s (k .i2 .given .1) in
-    (s .pre .1 .counts, n .first)
+    (s .pre .1 .counts, n .each .0)
 
 enum-known-i-3 : tie.Need-enum-known-i-3
 enum-known-i-3 c = search needs
@@ -57,7 +57,7 @@ add-requires : tie.Need-add-requires
 add-requires c κs = let k = c .before .before in
     let s = k .before .before .before .before .before .before .before .before .before in
     let n = narrow s (k .i3 .given .1) in
-    (s .pre .1 .counts, n .first, n .second, n .third)
+    (s .pre .1 .counts, n .each .0, n .each .1 .0, n .each .1 .1 .0)
 
 enum-known-i-4 : tie.Need-enum-known-i-4
 enum-known-i-4 c = search needs
@@ -66,7 +66,7 @@ sub-requires : tie.Need-sub-requires
 sub-requires c κs = let k = c .before .before in
     let s = k .before .before .before .before .before .before .before .before .before in
     let n = narrow s (k .i4 .given .1) in
-    (s .pre .1 .counts, n .first, n .second, n .third)
+    (s .pre .1 .counts, n .each .0, n .each .1 .0, n .each .1 .1 .0)
 
 enum-known-i-5 : tie.Need-enum-known-i-5
 enum-known-i-5 c = search needs
@@ -75,7 +75,7 @@ less-requires : tie.Need-less-requires
 less-requires c κs = let k = c .before .before in
     let s = k .before .before .before .before .before .before .before .before .before in
     let n = narrow s (k .i5 .given .1) in
-    (s .pre .1 .counts, n .first, n .second, n .third)
+    (s .pre .1 .counts, n .each .0, n .each .1 .0, n .each .1 .1 .0)
 
 enum-known-i-6 : tie.Need-enum-known-i-6
 enum-known-i-6 c = search needs
@@ -84,7 +84,7 @@ load8-requires : tie.Need-load8-requires
 load8-requires c κs = let k = c .before .before .before in
     let s = k .before .before .before .before .before .before .before .before .before in
     let n = narrow s (k .i6 .given .1) in
-    (s .pre .1 .counts, n .first, n .second)
+    (s .pre .1 .counts, n .each .0, n .each .1 .0)
 
 enum-known-i-7 : tie.Need-enum-known-i-7
 enum-known-i-7 c = search needs
@@ -93,7 +93,7 @@ load32-requires : tie.Need-load32-requires
 load32-requires c κs = let k = c .before .before .before in
     let s = k .before .before .before .before .before .before .before .before .before in
     let n = narrow s (k .i7 .given .1) in
-    (s .pre .1 .counts, n .first, n .second)
+    (s .pre .1 .counts, n .each .0, n .each .1 .0)
 
 enum-known-i-8 : tie.Need-enum-known-i-8
 enum-known-i-8 c = search needs
@@ -105,7 +105,7 @@ store8-requires : tie.Need-store8-requires
 store8-requires c κs = let k = c .before .before .before .before in
     let s = k .before .before .before .before .before .before .before .before .before in
     let n = narrow s (k .i8 .given .1) in
-    (s .pre .1 .counts, n .third)
+    (s .pre .1 .counts, n .each .1 .1 .0)
 
 enum-known-i-9 : tie.Need-enum-known-i-9
 enum-known-i-9 c = search needs
@@ -117,31 +117,31 @@ store32-requires : tie.Need-store32-requires
 store32-requires c κs = let k = c .before .before .before .before in
     let s = k .before .before .before .before .before .before .before .before .before in
     let n = narrow s (k .i9 .given .1) in
-    (s .pre .1 .counts, n .third)
+    (s .pre .1 .counts, n .each .1 .1 .0)
 
 enum-known-i-10 : tie.Need-enum-known-i-10
 enum-known-i-10 c = search needs
 
 value-requires : tie.Need-value-requires
-value-requires c κs = let k = c .before .before .before in narrow (k .before .before .before .before .before .before .before .before .before) (k .i10 .given .1) .first
+value-requires c κs = let k = c .before .before .before in narrow (k .before .before .before .before .before .before .before .before .before) (k .i10 .given .1) .each .0
 
 store8-requires-2 : tie.Need-store8-requires-2
 store8-requires-2 c κs = let k = c .before .before .before .before in
     let s = k .before .before .before .before .before .before .before .before .before in
     let n = narrow s (k .i10 .given .1) in
-    (s .pre .1 .counts, n .second)
+    (s .pre .1 .counts, n .each .1 .0)
 
 enum-known-i-11 : tie.Need-enum-known-i-11
 enum-known-i-11 c = search needs
 
 value-requires-2 : tie.Need-value-requires-2
-value-requires-2 c κs = let k = c .before .before .before in narrow (k .before .before .before .before .before .before .before .before .before) (k .i11 .given .1) .first
+value-requires-2 c κs = let k = c .before .before .before in narrow (k .before .before .before .before .before .before .before .before .before) (k .i11 .given .1) .each .0
 
 store32-requires-2 : tie.Need-store32-requires-2
 store32-requires-2 c κs = let k = c .before .before .before .before in
     let s = k .before .before .before .before .before .before .before .before .before in
     let n = narrow s (k .i11 .given .1) in
-    (s .pre .1 .counts, n .second)
+    (s .pre .1 .counts, n .each .1 .0)
 
 enum-known-i-12 : tie.Need-enum-known-i-12
 enum-known-i-12 c = search needs
@@ -153,7 +153,7 @@ enum-known-i-13 : tie.Need-enum-known-i-13
 enum-known-i-13 c = search needs
 
 value-requires-3 : tie.Need-value-requires-3
-value-requires-3 c κs = let k = c .before .before in narrow (k .before .before .before .before .before .before .before .before .before) (k .i13 .given .1) .first
+value-requires-3 c κs = let k = c .before .before in narrow (k .before .before .before .before .before .before .before .before .before) (k .i13 .given .1) .each .0
 
 jump-requires-2 : tie.Need-jump-requires-2
 jump-requires-2 c κs = search needs
@@ -176,7 +176,7 @@ alloc-requires : tie.Need-alloc-requires
 alloc-requires c κs = let k = c .before .before .before .before in
     let s = k .before .before .before .before .before .before .before .before .before in
     let n = narrow s (k .i14 .given .1) in
-    (s .pre .1 .counts, n .first, n .third)
+    (s .pre .1 .counts, n .each .0, n .each .1 .1 .0)
 
 enum-known-i-15 : tie.Need-enum-known-i-15
 enum-known-i-15 c = search needs
@@ -185,7 +185,7 @@ free-requires : tie.Need-free-requires
 free-requires c κs = let k = c .before .before .before .before in
     let s = k .before .before .before .before .before .before .before .before .before in
     let n = narrow s (k .i15 .given .1) in
-    (s .pre .1 .counts, n .first)
+    (s .pre .1 .counts, n .each .0)
 
 enum-known-i-16 : tie.Need-enum-known-i-16
 enum-known-i-16 c = search needs
@@ -194,7 +194,7 @@ take-input-requires : tie.Need-take-input-requires
 take-input-requires c κs = let k = c .before .before in
     let s = k .before .before .before .before .before .before .before .before .before in
     let n = narrow s (k .i16 .given .1) in
-    (s .pre .1 .counts, n .first)
+    (s .pre .1 .counts, n .each .0)
 
 enum-known-i-17 : tie.Need-enum-known-i-17
 enum-known-i-17 c = search needs
@@ -203,13 +203,13 @@ put-out-requires : tie.Need-put-out-requires
 put-out-requires c κs = let k = c .before .before .before in
     let s = k .before .before .before .before .before .before .before .before .before in
     let n = narrow s (k .i17 .given .1) in
-    (s .pre .1 .counts, n .first)
+    (s .pre .1 .counts, n .each .0)
 
 enum-known-i-18 : tie.Need-enum-known-i-18
 enum-known-i-18 c = search needs
 
 value-requires-4 : tie.Need-value-requires-4
-value-requires-4 c κs = let k = c .before .before .before in narrow (k .before .before .before .before .before .before .before .before .before) (k .i18 .given .1) .first
+value-requires-4 c κs = let k = c .before .before .before in narrow (k .before .before .before .before .before .before .before .before .before) (k .i18 .given .1) .each .0
 
 check8-requires : tie.Need-check8-requires
 check8-requires c κs = search needs
@@ -218,7 +218,7 @@ enum-known-i-19 : tie.Need-enum-known-i-19
 enum-known-i-19 c = search needs
 
 value-requires-5 : tie.Need-value-requires-5
-value-requires-5 c κs = let k = c .before .before .before in narrow (k .before .before .before .before .before .before .before .before .before) (k .i19 .given .1) .first
+value-requires-5 c κs = let k = c .before .before .before in narrow (k .before .before .before .before .before .before .before .before .before) (k .i19 .given .1) .each .0
 
 check32-requires : tie.Need-check32-requires
 check32-requires c κs = search needs

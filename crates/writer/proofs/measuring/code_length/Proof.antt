@@ -23,7 +23,7 @@ instr-of code i = getD code i (line Instr.End) .instr
 
 abbrev Inv-loop : tie.InvT-loop
 Inv-loop kinds scope code lines total₀ i₀ total i =
-    (lines ≡ scope .lines) × (i ≤ lines) × (total ≤ 20 * i)
+    (lines ≡ scope .lines) × (i ≤ lines) × (total ≤ 25 * i)
     × Adding (goodInstr (scopeOver scope kinds)) (spellInstr (scope .version)) (tabulate (instr-of code) 0 lines) (tabulate (instr-of code) i (lines - i)) total
 
 abbrev μ-loop : tie.MeasureT-loop

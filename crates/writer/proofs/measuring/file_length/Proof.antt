@@ -125,7 +125,7 @@ with-counts-requires c κs =
     let o = objects-fit (c .before .before .before .before) in
     let k = code-fits c in
     let a = many-small (spellObject 2) 15 (object-length 2) (shown s .objects) in
-    let b = many-small (spellInstr 2) 20 (instr-length 2) (shown s .code) in
+    let b = many-small (spellInstr 2) 25 (instr-length 2) (shown s .code) in
     let m = os-are s in
     let l = count-is s (n .most) in
     (n .few, omega (arith, o .long, n .few), n .most, omega (arith, k .long, n .most))

@@ -12,9 +12,9 @@ use types.Run.{OneOf, miss}
 use mir.Val.{hasKey}
 use denote.Enum.Declared.{tagOf}
 use Rattle.opcodes.specs.declared.Instr.{Instr}
-use Rattle.opcodes.specs.Table.{makers, make, partsOf}
+use Rattle.opcodes.specs.Table.{makers, make, numbersOf, partsOf}
 use Rattle.opcodes.proofs.Instr.{the-type}
 use Rattle.instructions.proofs.Parting.{make-parts}
 
 module _ {A : Type 0} where
   -- what a function gives for n numbers
@@ -31,27 +31,26 @@ module _ {A : Type 0} where
       go next (inr m) = next m (omega arith)
 
   -- past the table stands END
-  pub past : (f : Instr → A) (op x y z : ℕ) → 22 ≤ op → f (make op x y z) ≡ f Instr.End
-  past f op x y z h = ap (λ (m : ℕ → ℕ → ℕ → Instr). f (m x y z)) (List·getD-eq-default makers (λ (x y z : ℕ). Instr.End) h)
+  pub past : (f : Instr → A) (op : ℕ) (ns : List ℕ) → 22 ≤ op → f (make op ns) ≡ f Instr.End
+  past f op ns h = ap (λ (m : List ℕ → Instr). f (m ns)) (List·getD-eq-default makers (λ (ns : List ℕ). Instr.End) h)
 
   -- what a function gives for an instruction of each opcode
-  abbrev pub perOpcode : (Instr → A) → (x y z : ℕ) → List A
-  perOpcode f x y z = table (λ op. f (make op x y z)) 0 22
+  abbrev pub perOpcode : (Instr → A) → List ℕ → List A
+  perOpcode f ns = table (λ op. f (make op ns)) 0 22
 
-  pub agree : (f g : Instr → A) → ((x y z : ℕ) → perOpcode f x y z ≡ perOpcode g x y z) → (i : Instr) → f i ≡ g i
-  agree f g e i =
-      ap f (sym (make-parts i)) ∙ made (partsOf i .op) (partsOf i .x) (partsOf i .y) (partsOf i .z) ∙ ap g (make-parts i)
+  pub agree : (f g : Instr → A) → ((ns : List ℕ) → perOpcode f ns ≡ perOpcode g ns) → (i : Instr) → f i ≡ g i
+  agree f g e i = ap f (sym (make-parts i)) ∙ made (partsOf i .op) (numbersOf (partsOf i)) ∙ ap g (make-parts i)
     where
-      made : (op x y z : ℕ) → f (make op x y z) ≡ g (make op x y z)
-      made op x y z =
+      made : (op : ℕ) (ns : List ℕ) → f (make op ns) ≡ g (make op ns)
+      made op ns =
           elim (decLt op 22) [
-            | yes h ↦ alike (λ (op : ℕ). f (make op x y z)) (λ (op : ℕ). g (make op x y z)) 0 22 (e x y z) op (omega arith) h
-            | no n ↦ past f op x y z (omega arith) ∙ ap (λ (t : List A). getD t 0 (f Instr.End)) (e x y z) ∙ sym (past g op x y z (omega arith))
+            | yes h ↦ alike (λ (op : ℕ). f (make op ns)) (λ (op : ℕ). g (make op ns)) 0 22 (e ns) op (omega arith) h
+            | no n ↦ past f op ns (omega arith) ∙ ap (λ (t : List A). getD t 0 (f Instr.End)) (e ns) ∙ sym (past g op ns (omega arith))
           ]
 
   -- the same for the opcodes that an arm of a match takes
   pub agree-on : (keys : List ℕ) (f g : Instr → A)
-      → ((x y z : ℕ) → perOpcode f x y z ≡ perOpcode (λ i. elim (hasKey keys (tagOf the-type i)) [ true ↦ g i | false ↦ f i ]) x y z)
+      → ((ns : List ℕ) → perOpcode f ns ≡ perOpcode (λ i. elim (hasKey keys (tagOf the-type i)) [ true ↦ g i | false ↦ f i ]) ns)
       → (i : Instr) → OneOf keys (tagOf the-type i) → f i ≡ g i
   agree-on keys f g e i h = agree f (λ i. elim (hasKey keys (tagOf the-type i)) [ true ↦ g i | false ↦ f i ]) e i ∙ go (hasKey keys (tagOf the-type i)) refl
     where
