@@ -15,7 +15,7 @@ use Rattle.safety.specs.declared.Nature.{Nature}
 use Rattle.safety.specs.Nature.{natureOf, sizesIn}
 use Rattle.safety.proofs.Nature
 use Rattle.instructions.proofs.Tables.{agree-on}
-use Rattle.opcodes.specs.Moved.{moved}
+use Rattle.instructions.specs.Moved.{moved}
 
 -- the opcodes that are no store, and those that are copied as they are
 abbrev pub unstored : List ℕ

@@ -12,21 +12,8 @@ use Rattle.opcodes.specs.declared.Instr.{Instr}
 use Rattle.opcodes.specs.declared.Instr.the-variants.{End}
 use Rattle.files.specs.Program.{Program}
 use Rattle.opcodes.specs.View.{one, four, Aim, inGlobal, atTemp, View, act, jump, jumpIf, store, check, view, checkInstr}
-use Rattle.instructions.proofs.Tables.{agree}
 use Rattle.instrumenter.specs.Instrumented.{checksOf, checkOf, guarded, spanOf, newPlace}
 use Rattle.instrumenter.proofs.Spans.{span-append, guarded-append, length-guarded}
-use Rattle.opcodes.specs.Moved.{moved}
-
--- what an instruction is in version 2
-abbrev pub movedView : (target : ℕ → ℕ) → View → View
-movedView target (act x) = act x
-movedView target (jump t) = jump (target t)
-movedView target (jumpIf a t) = jumpIf a (target t)
-movedView target (store aim b s) = store aim b 0
-movedView target (check aim c) = check aim c
-
-pub view-moved : (target : ℕ → ℕ) (i : Instr) → view (moved target i) ≡ movedView target (view i)
-view-moved target = agree (λ i. view (moved target i)) (λ i. movedView target (view i)) (λ ns. refl)
 
 pub view-check : (aim : Aim) (c : ℕ) → view (checkInstr aim c) ≡ check aim c
 view-check (inGlobal g k one) c = refl

@@ -22,7 +22,7 @@ use Rattle.coloring.proofs.Tinted.{tinted-length}
 use Rattle.instrumenter.specs.Instrumented.{checksOf, checkOf, guarded, newPlace, instrumented}
 use Rattle.instrumenter.proofs.Spans.{check-safe, check-unsafe}
 use Rattle.coloring.specs.Color.{colorOfSet}
-use Rattle.opcodes.specs.Moved.{moved}
+use Rattle.instructions.specs.Moved.{moved}
 
 -- a color takes at most two bytes
 color-width : (c : ℕ) → c ≤ 255 → width c ≤ 2

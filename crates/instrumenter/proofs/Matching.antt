@@ -26,7 +26,7 @@ use Rattle.files.proofs.GoodInstructions.{Names, names}
 use Rattle.files.proofs.RoundTrip.{Good, set-some}
 use Rattle.instrumenter.proofs.Inside.{first-below}
 use Rattle.instrumenter.proofs.Stored.{size-at, color-at, first-at}
-use Rattle.opcodes.specs.Moved.{moved}
+use Rattle.instructions.specs.Moved.{moved}
 
 abbrev pub sizesHeld : (color : ℕ → ℕ) → Program → List ℕ
 sizesHeld color p = filled 400 0 (map (λ o. o .size) (tinted color 0 (p .objects)))

@@ -30,7 +30,7 @@ use Rattle.opcodes.proofs.Bounds.{within-true}
 use Rattle.instrumenter.proofs.Inside.{store-unsafe}
 use Rattle.instrumenter.proofs.Spans.{check-safe, check-unsafe}
 use Rattle.coloring.specs.Color.{colorOfSet}
-use Rattle.opcodes.specs.Moved.{moved}
+use Rattle.instructions.specs.Moved.{moved}
 
 -- ---- objects
 

@@ -8,7 +8,7 @@ use mathlib.Core.Bool.{Bool, true, false}
 use lib.ListN.{length, take, length-append}
 use Rattle.opcodes.specs.declared.Instr.{Instr}
 use Rattle.files.specs.Program.{Program}
-use Rattle.opcodes.specs.Moved.{moved}
+use Rattle.instructions.specs.Moved.{moved}
 use Rattle.opcodes.specs.View.{Aim, View, act, jump, jumpIf, store, check, view, checkInstr}
 use Rattle.safety.specs.Unsafe.{safeAim, setOf, Unsafe}
 use Rattle.safety.proofs.Stores.{safe-none, unsafe-one}

@@ -15,7 +15,7 @@ use Rattle.instrumenter.specs.Arrays.{instrsIn, asList}
 use Rattle.instrumenter.specs.declared.checks.Before.{Before}
 use Rattle.instrumenter.proofs.checks.Before.{the-type}
 use denote.Enum.Declared.{tagOf}
-use Rattle.opcodes.specs.Moved.{moved}
+use Rattle.instructions.specs.Moved.{moved}
 use Rattle.instrumenter.proofs.Spans.{span-append, guarded-append}
 use Rattle.instrumenter.specs.Instrumented.{guarded, spanOf}
 

@@ -4,7 +4,7 @@ use mathlib.Core.List.{List, [], _∷_, _++_, map}
 use lib.ListN.{length, take}
 use Rattle.opcodes.specs.declared.Instr.{Instr}
 use Rattle.opcodes.specs.View.{View, view, checkInstr}
-use Rattle.opcodes.specs.Moved.{moved}
+use Rattle.instructions.specs.Moved.{moved}
 use Rattle.files.specs.Program.{Program}
 use Rattle.safety.specs.Unsafe.{unsafeIn}
 use Rattle.coloring.specs.Color.{colorOfSet}

@@ -6,7 +6,7 @@ ghost use mathlib.Core.Path.{_≡_};
 ghost use lib.ListN.{getD};
 ghost use Rattle.opcodes.specs.View.{view};
 ghost use Rattle.instrumenter.specs.Arrays.{setStart, firstIn, checkFor, asList, checkIn};
-ghost use Rattle.opcodes.specs.Moved.{moved};
+ghost use Rattle.instructions.specs.Moved.{moved};
 
 // What stands directly before the copy of an instruction.
 pub enum Before {

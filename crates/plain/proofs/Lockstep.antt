@@ -29,7 +29,8 @@ use Rattle.opcodes.specs.View.{Aim, inGlobal, atTemp, Act, View, act, jump, jum
 use Rattle.safety.specs.Unsafe.{safeAim, setOf, Unsafe, unsafeIn, sizeOf}
 use Rattle.safety.proofs.Stores.{unsafeStore, safe-none, unsafe-one}
 use Rattle.layout.specs.Layout.{startOf, fits}
-use Rattle.instrumenter.proofs.Guarded.{movedView, view-moved, view-check}
+use Rattle.instructions.proofs.Moving.{movedView, view-moved}
+use Rattle.instrumenter.proofs.Guarded.{view-check}
 use Rattle.memory.specs.Memory.{memorySize, colorAt, bytesOf, put, everyByte, inside}
 use Rattle.heap.specs.Heap.{heapStart}
 use Rattle.memory.proofs.Memory.{length-bytesOf, everyByte-each}

@@ -14,12 +14,13 @@ use Rattle.opcodes.specs.declared.Instr.{Instr}
 use Rattle.files.specs.Program.{Program}
 use Rattle.opcodes.specs.View.{View, act, jump, jumpIf, store, check, view}
 use Rattle.safety.specs.Unsafe.{setOf}
-use Rattle.instrumenter.proofs.Guarded.{movedView, view-moved, view-check}
+use Rattle.instructions.proofs.Moving.{movedView, view-moved}
+use Rattle.instrumenter.proofs.Guarded.{view-check}
 use Rattle.stops.specs.Stop.{counts, placesIn, placeIn}
 use Rattle.stops.proofs.Places.{places-more}
 use Rattle.plain.specs.Guards.{instrAt, Stands, Guards}
 use Rattle.coloring.specs.Color.{colorOfSet}
-use Rattle.opcodes.specs.Moved.{moved}
+use Rattle.instructions.specs.Moved.{moved}
 
 -- the place behind an instruction
 place-behind : (code : List Instr) (n : ℕ) → n < length code → placeIn code (n + 1) ≡ placeIn code n + counts (view (getD code n Instr.End))

@@ -6,7 +6,7 @@ use mathlib.Core.List.{List, [], _∷_}
 use lib.ListN.{length}
 use Rattle.opcodes.specs.declared.Instr.{Instr}
 use Rattle.opcodes.specs.View.{view, checkInstr}
-use Rattle.opcodes.specs.Moved.{moved}
+use Rattle.instructions.specs.Moved.{moved}
 use Rattle.files.specs.Program.{Program}
 use Rattle.safety.specs.Unsafe.{Unsafe, unsafeIn}
 use Rattle.coloring.specs.Color.{colorOfSet}

@@ -17,7 +17,8 @@ use Rattle.safety.specs.Unsafe.{safeAim, setOf, unsafeIn, unsafeSets, sizeOf}
 use Rattle.safety.proofs.Stores.{unsafeStore, safe-none, unsafe-one}
 use Rattle.coloring.specs.Class.{unsafeObject}
 use Rattle.layout.specs.Layout.{startOf, fits}
-use Rattle.instrumenter.proofs.Guarded.{movedView, view-moved, view-check}
+use Rattle.instructions.proofs.Moving.{movedView, view-moved}
+use Rattle.instrumenter.proofs.Guarded.{view-check}
 use Rattle.memory.specs.Memory.{memorySize, colorAt, put, bytesOf}
 use Rattle.memory.proofs.Memory.{put-outside, length-bytesOf}
 use Rattle.machine.specs.State.{Given, State, startState, temp, addressOf, widthOf}

@@ -8,7 +8,7 @@ use lib.ListN.{length, getD}
 use Rattle.opcodes.specs.declared.Instr.{Instr}
 use Rattle.files.specs.Program.{Program}
 use Rattle.opcodes.specs.View.{view, checkInstr}
-use Rattle.opcodes.specs.Moved.{moved}
+use Rattle.instructions.specs.Moved.{moved}
 use Rattle.safety.specs.Unsafe.{Unsafe, unsafeIn, unsafeSets}
 use Rattle.coloring.specs.Class.{unsafeObject, sameClass}
 use Rattle.coloring.specs.Color.{colorOfSet}

@@ -7,7 +7,7 @@ use Rattle.instrumenter.proofs.Cases.{copied-whole}
 use borrow.Author.Needs.{needs}
 use Rattle.instrumenter.proofs.checks.copy_of.Statement.{statement}
 use Rattle.instrumenter.proofs.checks.copy_of.Tie as tie
-use Rattle.opcodes.specs.Moved.{moved}
+use Rattle.instructions.specs.Moved.{moved}
 
 enum-known-i : tie.Need-enum-known-i
 enum-known-i c = search needs
