@@ -12,6 +12,7 @@ use Rattle.opcodes.specs.declared.Instr.{Instr}
 use Rattle.opcodes.specs.declared.Instr.the-variants.{End}
 use Rattle.files.specs.Program.{Program}
 use Rattle.opcodes.specs.View.{one, four, Aim, inGlobal, atTemp, View, act, jump, jumpIf, store, check, view, checkInstr}
+use Rattle.instructions.specs.Moved.{moved}
 use Rattle.instrumenter.specs.Instrumented.{checksOf, checkOf, guarded, spanOf, newPlace}
 use Rattle.instrumenter.proofs.Spans.{span-append, guarded-append, length-guarded}
 

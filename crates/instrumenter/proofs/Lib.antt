@@ -8,8 +8,8 @@
 --   what is written reads back as exactly that code, never 9 again    `wrote`, `new-file-reads`, `fits-again` in `ReadsBack`
 --   each answer has its reason, and each reason its answer            `answered-because`, `answers` in `Answers`
 --
--- How the code comes to it: one instruction's check and copy (`Cases`); the two passes over the code,
--- one instruction at a time (`Turns`); over the arrays that hold a routine they give its version 2
+-- How the code comes to it: the two passes over the code, one instruction at a time (`Turns`), each by the crate
+-- `checks`; over the arrays that hold a routine they give its version 2
 -- (`Stored`, `Matching`, `Version`); and at each return what is known is the reason for what is answered
 -- (`Told`).
 pub mod Inside
@@ -20,7 +20,6 @@ pub mod Lengths
 pub mod Instrumenting
 pub mod Answers
 pub mod ReadsBack
-mod Cases
 mod Turns
 mod Stored
 mod Matching

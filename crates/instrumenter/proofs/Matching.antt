@@ -20,7 +20,7 @@ use Rattle.safety.specs.Nature.{putNature, natureOf, sizesIn}
 use Rattle.instructions.proofs.Tables.{agree}
 use Rattle.coloring.proofs.Tinted.{tinted-size}
 use Rattle.instrumenter.specs.Instrumented.{checksOf, checkOf, guarded, spanOf}
-use Rattle.instrumenter.specs.Arrays.{checkFor, firstIn, checkNature, checkIn}
+use Rattle.checks.specs.Held.{checkFor, firstIn, checkNature, checkIn}
 use Rattle.files.proofs.Tests.{every-head, every-tail}
 use Rattle.files.proofs.GoodInstructions.{Names, names}
 use Rattle.files.proofs.RoundTrip.{Good, set-some}

@@ -15,8 +15,9 @@ use Rattle.files.specs.Held.{filled, line, endsFrom, joined, tabulate}
 use Rattle.safety.specs.Unsafe.{sizeOf}
 use Rattle.coloring.specs.Colored.{tinted}
 use Rattle.coloring.proofs.Tinted.{tinted-color}
-use Rattle.instrumenter.specs.Arrays.{setStart, firstIn, instrsIn}
-use Rattle.instrumenter.proofs.Cases.{start-first, start-later}
+use Rattle.checks.specs.Held.{setStart, firstIn}
+use Rattle.instrumenter.specs.Arrays.{instrsIn}
+use Rattle.checks.proofs.Cases.{start-first, start-later}
 
 -- ---- sizes and colors
 

@@ -11,9 +11,10 @@ use Rattle.opcodes.specs.declared.Instr.{Instr}
 use Rattle.files.specs.declared.Line.{Line}
 use Rattle.files.specs.Held.{filled, line}
 use Rattle.files.proofs.Filled.{map-more}
-use Rattle.instrumenter.specs.Arrays.{instrsIn, asList}
-use Rattle.instrumenter.specs.declared.checks.Before.{Before}
-use Rattle.instrumenter.proofs.checks.Before.{the-type}
+use Rattle.checks.specs.Held.{asList}
+use Rattle.instrumenter.specs.Arrays.{instrsIn}
+use Rattle.checks.specs.declared.Before.{Before}
+use Rattle.checks.proofs.Before.{the-type}
 use denote.Enum.Declared.{tagOf}
 use Rattle.instructions.specs.Moved.{moved}
 use Rattle.instrumenter.proofs.Spans.{span-append, guarded-append}

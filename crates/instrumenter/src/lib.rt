@@ -1,6 +1,5 @@
 // Instrumenting: version 2 of a routine. The same instructions in order, each unsafe one directly
 // preceded by its check with its class's color; a jump goes to the check where there is one.
-mod checks; // checks.rt: the check of an instruction, and its copy
 mod passes; // passes.rt: where the instructions go, and the code of version 2
 
 use coloring::read_colored;

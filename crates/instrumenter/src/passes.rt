@@ -1,14 +1,15 @@
 // The two passes over a routine's code: first the new place of each instruction, then the code of
 // version 2. Each owns the array that it fills, and is lent those that it reads.
-use super::checks::Before;
-use super::checks::check_before;
-use super::checks::copy_of;
+use checks::Before;
+use checks::check_before;
+use checks::copy_of;
 use files::Line;
 use opcodes::Instr;
 ghost use mathlib.Core.Path.{_≡_};
 ghost use Prim.Native.Nat.{_+_, _≤_};
 ghost use lib.ListN.{length, getD};
-ghost use Rattle.instrumenter.specs.Arrays.{asList, checkIn, PlacesAre, GuardedCode};
+ghost use Rattle.checks.specs.Held.{asList, checkIn};
+ghost use Rattle.instrumenter.specs.Arrays.{PlacesAre, GuardedCode};
 
 // The code of version 2, of which the first so many lines count.
 pub struct Code {

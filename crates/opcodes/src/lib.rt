@@ -1,8 +1,8 @@
-// Opcodes: one table gives for each its operands and their ranges, for the reader, the writer and everybody
-// who takes an instruction apart.
+// Opcodes: what an operand may be, what a version has, and the definition of the table that gives each opcode its
+// operands, for the reader, the writer and everybody who takes an instruction apart.
 //
 // Every function answers for every number that it can be given.
-pub mod table; // table.rt: the rows, and which opcodes and operands a version has
+pub mod versions; // versions.rt: which opcodes and operands a version has
 pub mod ranges; // ranges.rt: the numbers that an operand may be
 pub mod extent; // extent.rt: a size rounded up to eight
 

@@ -1,20 +1,25 @@
 -- Every contract says all that it says by equations, and two things that are equal to one value are
 -- equal.
 use Prim.Native.Nat.{ℕ}
-use mathlib.Core.Path.{_≡_, sym, _∙_, ap}
-use mathlib.Core.List.{List}
+use mathlib.Core.Path.{_≡_, refl, sym, _∙_, ap}
+use mathlib.Core.List.{List, [], _∷_}
 use denote.Ref.{RefT}
 use Rattle.reader.specs.declared.Reader.{Reader}
+use Rattle.opcodes.specs.declared.Instr.{Instr}
+use Rattle.checks.specs.declared.Before.{Before}
+use Rattle.checks.specs.Held.{asList}
 use Rattle.stops.specs.declared.Run.{Run}
 use Rattle.machine.specs.Running.{Lent, Answer, lentOf, answered}
 use Rattle.unique.specs.Once.{Once}
 use Rattle.unique.specs.Once.{numbers-read-number, numbers-number-width, numbers-write-number}
 use Rattle.unique.specs.Once.{reader-open, reader-after, reader-number, reader-read-at}
-use Rattle.unique.specs.Once.{opcodes-row-of, opcodes-has-opcode, opcodes-is-present, opcodes-is-within, opcodes-is-color, opcodes-is-allowed, opcodes-extent-of}
+use Rattle.unique.specs.Once.{table-row-of, table-has-opcode}
+use Rattle.unique.specs.Once.{opcodes-has-group, opcodes-is-present, opcodes-is-within, opcodes-is-color, opcodes-is-allowed, opcodes-extent-of}
 use Rattle.unique.specs.Once.{instructions-instr-of, instructions-parts-of}
 use Rattle.unique.specs.Once.{files-read-routine, files-read-program}
 use Rattle.unique.specs.Once.{writer-write-program}
 use Rattle.unique.specs.Once.{safety-by-opcode, safety-nature-of}
+use Rattle.unique.specs.Once.{checks-copy-of, checks-check-before}
 use Rattle.unique.specs.Once.{coloring-read-colored}
 use Rattle.unique.specs.Once.{layout-lay-out}
 use Rattle.unique.specs.Once.{memory-fill, memory-load8, memory-load32, memory-number-at, memory-store8, memory-store32, memory-check8, memory-check32, memory-paint, memory-are-exact}
@@ -78,11 +83,14 @@ reader-read-at-once file from = once
 
 -- ---- opcodes
 
-pub opcodes-row-of-once : opcodes-row-of
-opcodes-row-of-once op = once
+pub table-row-of-once : table-row-of
+table-row-of-once op = once
 
-pub opcodes-has-opcode-once : opcodes-has-opcode
-opcodes-has-opcode-once version op = once
+pub table-has-opcode-once : table-has-opcode
+table-has-opcode-once version op = once
+
+pub opcodes-has-group-once : opcodes-has-group
+opcodes-has-group-once version group = once
 
 pub opcodes-is-present-once : opcodes-is-present
 opcodes-is-present-once version kind = once
@@ -127,6 +135,23 @@ safety-by-opcode-once opcode x y z w size = once
 
 pub safety-nature-of-once : safety-nature-of
 safety-nature-of-once i sizes = once
+
+-- ---- checks
+
+pub checks-copy-of-once : checks-copy-of
+checks-copy-of-once i places = once
+
+-- what stands before a copy, as a list, says which it is
+abbrev ofList : List Instr → Before
+ofList [] = Before.Nothing
+ofList (i ∷ is) = Before.Check i
+
+back : (b : Before) → ofList (asList b) ≡ b
+back Before.Nothing = refl
+back (Before.Check i) = refl
+
+pub checks-check-before-once : checks-check-before
+checks-check-before-once i sizes colors ends members a b p q = sym (back a) ∙ ap ofList (p ∙ sym q) ∙ back b
 
 -- ---- coloring
 

@@ -5,7 +5,7 @@ use Prim.Native.Nat.{ℕ}
 use mathlib.Core.Path.{_≡_}
 use mathlib.Core.List.{List, [], _∷_}
 use mathlib.Core.Bool.{Bool}
-use lib.ListN.{length, replicate}
+use lib.ListN.{length, getD, replicate}
 use denote.Ref.{RefT, now}
 use Rattle.numbers.specs.declared.Cursor.{Cursor}
 use Rattle.numbers.specs.declared.Refusal.{Refusal}
@@ -13,11 +13,12 @@ use Rattle.numbers.specs.declared.Written.{Written}
 use Rattle.numbers.specs.Number.{readNumber, width, writtenAt, roomAfter}
 use Rattle.reader.specs.declared.Reader.{Reader}
 use Rattle.opcodes.specs.declared.Instr.{Instr}
+use Rattle.opcodes.specs.declared.Group.{Group}
 use Rattle.opcodes.specs.declared.Operand.{Operand}
 use Rattle.opcodes.specs.declared.Scope.{Scope}
 use Rattle.opcodes.specs.Table.{rowOf, make, partsOf}
 use Rattle.instructions.specs.Making.{made}
-use Rattle.opcodes.specs.Ranges.{hasOpcode, within, isColor, present, scopeOver, allowed}
+use Rattle.opcodes.specs.Ranges.{hasGroup, hasOpcode, within, isColor, present, scopeOver, allowed}
 use Rattle.opcodes.specs.View.{view, extent}
 use Rattle.files.specs.declared.Line.{Line}
 use Rattle.files.specs.declared.Loaded.{Loaded}
@@ -25,6 +26,8 @@ use Rattle.files.specs.declared.Written as FileWritten
 use Rattle.files.specs.Reading.{readFile}
 use Rattle.files.specs.Held.{held, writtenIn, roomWith}
 use Rattle.safety.specs.Nature.{natureOf, sizesIn}
+use Rattle.instructions.specs.Moved.{moved}
+use Rattle.checks.specs.Held.{asList, checkIn}
 use Rattle.coloring.specs.Colored.{colored}
 use Rattle.layout.specs.Arrays.{piecesIn, layoutOf}
 use Rattle.memory.specs.Memory.{exact, hasColor, everyByte}
@@ -77,11 +80,14 @@ reader-read-at = (file : List ℕ) (from : Cursor) → Once (λ r. r ≡ readNum
 
 -- ---- opcodes
 
-abbrev pub opcodes-row-of : Type 0
-opcodes-row-of = (op : ℕ) → Once (λ r. r ≡ rowOf op)
+abbrev pub table-row-of : Type 0
+table-row-of = (op : ℕ) → Once (λ r. r ≡ rowOf op)
 
-abbrev pub opcodes-has-opcode : Type 0
-opcodes-has-opcode = (version op : ℕ) → Once (λ r. r ≡ hasOpcode version op)
+abbrev pub table-has-opcode : Type 0
+table-has-opcode = (version op : ℕ) → Once (λ r. r ≡ hasOpcode version op)
+
+abbrev pub opcodes-has-group : Type 0
+opcodes-has-group = (version : ℕ) (group : Group) → Once (λ r. r ≡ hasGroup version group)
 
 abbrev pub opcodes-is-present : Type 0
 opcodes-is-present = (version : ℕ) (kind : Operand) → Once (λ r. r ≡ present version kind)
@@ -129,6 +135,15 @@ safety-by-opcode = (opcode x y z w size : ℕ) → Once (λ r. r ≡ natureOf (�
 
 abbrev pub safety-nature-of : Type 0
 safety-nature-of = (i : Instr) (sizes : List ℕ) → Once (λ r. r ≡ natureOf (sizesIn sizes) (view i))
+
+-- ---- checks
+
+abbrev pub checks-copy-of : Type 0
+checks-copy-of = (i : Instr) (places : List ℕ) → Once (λ r. r ≡ moved (λ t. getD places t 0) i)
+
+abbrev pub checks-check-before : Type 0
+checks-check-before =
+    (i : Instr) (sizes colors ends members : List ℕ) → Once (λ r. asList r ≡ checkIn sizes colors ends members i)
 
 -- ---- coloring
 

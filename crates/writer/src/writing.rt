@@ -2,8 +2,8 @@
 use files::Line;
 use instructions::parts_of;
 use opcodes::Instr;
-use opcodes::table::is_present;
-use opcodes::table::row_of;
+use opcodes::versions::is_present;
+use table::row_of;
 ghost use mathlib.Core.Path.{_≡_};
 ghost use mathlib.Core.List.{map};
 ghost use Prim.Native.Nat.{_+_, _≤_};

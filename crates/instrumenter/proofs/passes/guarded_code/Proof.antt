@@ -7,7 +7,7 @@ use Prim.Native.Nat.{_-_, _<_}
 use lib.ListN.{getD}
 use native.Mathlib.Omega.{arith}
 use borrow.Author.Needs.{needs}
-use Rattle.instrumenter.specs.Arrays.{checkIn}
+use Rattle.checks.specs.Held.{checkIn}
 use Rattle.instrumenter.proofs.Turns.{blank, Upto, Half, upto-none, half-check, half-nothing, upto-more}
 use Rattle.instrumenter.proofs.passes.guarded_code.Statement.{statement}
 use Rattle.instrumenter.proofs.passes.guarded_code.Tie as tie

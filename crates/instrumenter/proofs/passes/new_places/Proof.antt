@@ -6,7 +6,7 @@ use mathlib.Core.Path.{_≡_, refl, _∙_, ap}
 use mathlib.Core.List.{List}
 use Rattle.opcodes.specs.declared.Instr.{Instr}
 use native.Mathlib.Omega.{arith}
-use Rattle.instrumenter.specs.Arrays.{checkIn}
+use Rattle.checks.specs.Held.{checkIn}
 use Rattle.instrumenter.proofs.Turns.{Placed, placed-none, placed-more}
 use Rattle.instrumenter.proofs.passes.new_places.Statement.{statement}
 use Rattle.instrumenter.proofs.passes.new_places.Tie as tie

@@ -1,0 +1,2 @@
+-- What `table` promises, and what carries it: the constant table of the code is the definition's, row by row (`row_of`),
+-- and a number is an opcode of a version where its row's group is (`has_opcode`).

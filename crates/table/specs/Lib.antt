@@ -1,0 +1,1 @@
+-- None: the table is defined in opcodes/Table.
