@@ -2,19 +2,22 @@
 -- is below the new count, a check's color is 2 to 255, and no set is left.
 use Prim.Native.Nat.{ℕ, _+_, _≤_}
 use native.Mathlib.Omega.{arith}
-use mathlib.Core.Path.{_≡_, refl, ap}
-use mathlib.Core.List.{List, [], _∷_, _++_}
+use mathlib.Core.Path.{_≡_, refl, sym, ap, subst}
+use mathlib.Core.List.{List, [], _∷_, _++_, map}
 use mathlib.Core.Bool.{Bool, true, false}
 use lib.ListN.{length, getD}
 use lib.Dec.{ltb, leb, eqb}
-use borrow.Author.Tests.{eq-eqb, ne-eqb}
+use borrow.Author.Tests.{eq-eqb, ne-eqb, eqb-true}
 use Rattle.files.specs.declared.Object.{Object}
+use Rattle.opcodes.specs.declared.Group.{Group}
+use Rattle.opcodes.specs.declared.Operand.{Operand}
+use Rattle.opcodes.specs.declared.Parts.{Parts}
 use Rattle.opcodes.specs.declared.Instr.{Instr}
 use Rattle.opcodes.specs.declared.Instr.the-variants.{End, Place, Add, Sub, Less, Load8, Load32, Put8, Put32, Write8, Write32, Jump, JumpIf, Alloc, Free, In, Out, Check8, Check32, CheckPut8, CheckPut32}
-use Rattle.opcodes.specs.Table.{partsOf, operandsIn, Each}
-use Rattle.opcodes.specs.Ranges.{Scope, within, isColor, isKind}
+use Rattle.opcodes.specs.Table.{rowOf, operandsOf, numbersOf, partsOf, named, operandsIn, Each}
+use Rattle.opcodes.specs.Ranges.{Scope, hasGroup, hasOpcode, within, isColor, isKind}
 use Rattle.files.specs.Program.{Program, kindsOf}
-use Rattle.files.specs.Writing.{both, every, goodObject, goodInstr, scopeOf}
+use Rattle.files.specs.Writing.{both, every, goodObject, goodOperand, goodOperands, goodParts, goodInstr, scopeOf}
 use Rattle.opcodes.specs.View.{View, act, jump, jumpIf, store, check, view, checkInstr}
 use Rattle.safety.specs.Unsafe.{safeAim, setOf, unsafeSet, setsIn, unsafeSets}
 use Rattle.coloring.specs.Class.{holds, unsafeObject}
@@ -22,15 +25,16 @@ use Rattle.coloring.proofs.Members.{some-behind}
 use Rattle.coloring.specs.Colored.{tinted}
 use Rattle.instrumenter.specs.Instrumented.{checksOf, checkOf, guarded}
 use Rattle.instrumenter.proofs.FileColors.{FileColors}
-use Rattle.files.proofs.Tests.{no-test, both-left, both-right, both-true, every-head, every-tail, every-cons, every-append}
+use Rattle.files.proofs.Tests.{both-left, both-true, every-head, every-tail, every-cons, every-append}
 use Rattle.files.proofs.GoodInstructions.{Names, names}
-use Rattle.files.proofs.SpelledInstructions.{good-parts, Good as Operand-good}
+use Rattle.files.proofs.SpelledInstructions.{GoodParts, good-parts, Good as Operand-good}
 use Rattle.files.proofs.RoundTrip.{Good}
-use Rattle.opcodes.proofs.Bounds.{within-true}
+use Rattle.opcodes.proofs.Bounds.{within-true, opcode-below}
+use Rattle.instructions.proofs.Parting.{Blank, parts-make}
 use Rattle.instrumenter.proofs.Inside.{store-unsafe}
 use Rattle.instrumenter.proofs.Spans.{check-safe, check-unsafe}
 use Rattle.coloring.specs.Color.{colorOfSet}
-use Rattle.instructions.specs.Moved.{moved}
+use Rattle.instructions.specs.Moved.{movedOperand, moved}
 
 -- ---- objects
 
@@ -73,34 +77,64 @@ kinds-tinted color from (o ∷ os) = ap (λ (l : List ℕ). o .kind ∷ l) (kind
 abbrev pub newScope : Program → (lines : ℕ) → Scope
 newScope p lines = record { version = 2; kinds = kindsOf (p .objects); sets = 0; code = lines }
 
+-- what holds of each operand that is moved
+each-moved : (target : ℕ → ℕ) {P : Operand → ℕ → Type 0} (Q : Operand → ℕ → Type 0) → ((kind : Operand) (n : ℕ) → P kind n → Q kind (movedOperand target kind n))
+    → (kinds : List Operand) (ns : List ℕ) → Each P (named kinds ns) → Each Q (named kinds (map (λ o. movedOperand target (o .0) (o .1)) (named kinds ns)))
+each-moved target Q f [] ns e = tt
+each-moved target Q f (kind ∷ kinds) [] e = tt
+each-moved target Q f (kind ∷ kinds) (n ∷ ns) e = (f kind n (e .0), each-moved target Q f kinds ns (e .1))
+
+good-each : (scope : Scope) (os : List (Operand × ℕ)) → Each (Operand-good scope) os → goodOperands scope os ≡ true
+good-each scope [] e = refl
+good-each scope (o ∷ os) e = both-true (goodOperand scope (o .0) (o .1)) (goodOperands scope os) (e .0) (good-each scope os (e .1))
+
+-- an opcode of version 1 is one of version 2
+opcode-kept : (op : ℕ) → hasOpcode 1 op ≡ true → hasOpcode 2 op ≡ true
+opcode-kept op e = go (ltb op 22) (rowOf op .group) e
+  where
+    go : (b : Bool) (g : Group) → elim b as (λ _. Bool) [ true ↦ hasGroup 1 g | false ↦ false ] ≡ true → elim b as (λ _. Bool) [ true ↦ hasGroup 2 g | false ↦ false ] ≡ true
+    go true Group.Plain e = refl
+    go true Group.Check e = refl
+    go false g e = e
+
 module _ (p : Program) (r : Good 1 p) (lines : ℕ) (target : ℕ → ℕ) (inside : (t : ℕ) → ltb t (length (p .code)) ≡ true → ltb (target t) lines ≡ true) where
   operands : (i : Instr) → goodInstr (scopeOf 1 p) i ≡ true → Each (Operand-good (scopeOf 1 p)) (operandsIn (partsOf i))
   operands i h = good-parts (scopeOf 1 p) (partsOf i) h .operands
 
-  -- the copy of an instruction
+  -- the copy of an instruction: each operand is in its new range
+  operand-moved : (kind : Operand) (n : ℕ) → Operand-good (scopeOf 1 p) kind n → Operand-good (newScope p lines) kind (movedOperand target kind n)
+  operand-moved Operand.None n g = g
+  operand-moved Operand.Temporary n g = g
+  operand-moved Operand.Number n g = g
+  operand-moved Operand.Global n g = g
+  operand-moved Operand.Site n g = g
+  operand-moved Operand.Set n g = refl
+  operand-moved Operand.Offset n g = g
+  operand-moved Operand.Target n g = inside n g
+  operand-moved Operand.Color n g = g
+
+  blank-moved : (kind : Operand) (n : ℕ) → Operand-good (scopeOf 1 p) kind n → Blank kind (movedOperand target kind n)
+  blank-moved Operand.None n g = eqb-true n 0 g
+  blank-moved Operand.Temporary n g = tt
+  blank-moved Operand.Number n g = tt
+  blank-moved Operand.Global n g = tt
+  blank-moved Operand.Site n g = tt
+  blank-moved Operand.Set n g = tt
+  blank-moved Operand.Offset n g = tt
+  blank-moved Operand.Target n g = tt
+  blank-moved Operand.Color n g = tt
+
   pub good-moved : (i : Instr) → goodInstr (scopeOf 1 p) i ≡ true → goodInstr (newScope p lines) (moved target i) ≡ true
-  good-moved End h = h
-  good-moved (Instr.Set d n) h = h
-  good-moved (Place d g) h = h
-  good-moved (Add d a b) h = h
-  good-moved (Sub d a b) h = h
-  good-moved (Less d a b) h = h
-  good-moved (Load8 d a) h = h
-  good-moved (Load32 d a) h = h
-  good-moved (Put8 g k a) h = h
-  good-moved (Put32 g k a) h = h
-  good-moved (Write8 a b s) h = let q = operands (Write8 a b s) h in both-true (ltb a 16) (both (ltb b 16) true) (q .0) (both-true (ltb b 16) true (q .1 .0) refl)
-  good-moved (Write32 a b s) h = let q = operands (Write32 a b s) h in both-true (ltb a 16) (both (ltb b 16) true) (q .0) (both-true (ltb b 16) true (q .1 .0) refl)
-  good-moved (Jump t) h = both-true (ltb (target t) lines) true (inside t (both-left (ltb t (length (p .code))) true h)) refl
-  good-moved (JumpIf a t) h = both-true (ltb a 16) (both (ltb (target t) lines) true) (both-left (ltb a 16) (both (ltb t (length (p .code))) true) h) (both-true (ltb (target t) lines) true (inside t (both-left (ltb t (length (p .code))) true (both-right (ltb a 16) (both (ltb t (length (p .code))) true) h))) refl)
-  good-moved (Alloc d g a) h = h
-  good-moved (Free a) h = h
-  good-moved (In d) h = h
-  good-moved (Out a) h = h
-  good-moved (Check8 a c) h = no-test h refl
-  good-moved (Check32 a c) h = no-test h refl
-  good-moved (CheckPut8 g k c) h = no-test h refl
-  good-moved (CheckPut32 g k c) h = no-test h refl
+  good-moved i h =
+      let q : Parts = partsOf i in
+      let g : GoodParts (scopeOf 1 p) q = good-parts (scopeOf 1 p) q h in
+      let kinds : List Operand = operandsOf (rowOf (q .op)) in
+      let ns : List ℕ = map (λ o. movedOperand target (o .0) (o .1)) (operandsIn q) in
+      let blanks = each-moved target Blank blank-moved kinds (numbersOf q) (g .operands) in
+      let goods = each-moved target (Operand-good (newScope p lines)) operand-moved kinds (numbersOf q) (g .operands) in
+      subst (λ (w : Parts). goodParts (newScope p lines) w ≡ true)
+      (sym (parts-make (q .op) (opcode-below 1 (q .op) (g .opcode)) ns refl blanks))
+      (both-true (hasOpcode 2 (q .op)) (goodOperands (newScope p lines) (named kinds ns)) (opcode-kept (q .op) (g .opcode)) (good-each (newScope p lines) (named kinds ns) goods))
 
   -- the check of a store whose class has a color
   put-check : (g k c : ℕ) → isKind (kindsOf (p .objects)) 0 g ≡ true → leb k 65535 ≡ true → within 2 255 c ≡ true
