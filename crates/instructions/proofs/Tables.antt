@@ -7,7 +7,7 @@ use mathlib.Core.Path.{_≡_, refl, sym, _∙_, ap}
 use mathlib.Core.Logic.{_⊎_, inl, inr}
 use mathlib.Core.List.{List, [], _∷_, tail}
 use mathlib.Core.Bool.{Bool, true, false}
-use lib.ListN.{getD, List·getD-eq-default}
+use lib.ListN.{length, getD, List·getD-eq-default}
 use types.Run.{OneOf, miss}
 use mir.Val.{hasKey}
 use denote.Enum.Declared.{tagOf}
@@ -31,20 +31,20 @@ module _ {A : Type 0} where
       go next (inr m) = next m (omega arith)
 
   -- past the table stands END
-  pub past : (f : Instr → A) (op : ℕ) (ns : List ℕ) → 22 ≤ op → f (make op ns) ≡ f Instr.End
+  pub past : (f : Instr → A) (op : ℕ) (ns : List ℕ) → length makers ≤ op → f (make op ns) ≡ f Instr.End
   past f op ns h = ap (λ (m : List ℕ → Instr). f (m ns)) (List·getD-eq-default makers (λ (ns : List ℕ). Instr.End) h)
 
   -- what a function gives for an instruction of each opcode
   abbrev pub perOpcode : (Instr → A) → List ℕ → List A
-  perOpcode f ns = table (λ op. f (make op ns)) 0 22
+  perOpcode f ns = table (λ op. f (make op ns)) 0 (length makers)
 
   pub agree : (f g : Instr → A) → ((ns : List ℕ) → perOpcode f ns ≡ perOpcode g ns) → (i : Instr) → f i ≡ g i
   agree f g e i = ap f (sym (make-parts i)) ∙ made (partsOf i .op) (numbersOf (partsOf i)) ∙ ap g (make-parts i)
     where
       made : (op : ℕ) (ns : List ℕ) → f (make op ns) ≡ g (make op ns)
       made op ns =
-          elim (decLt op 22) [
-            | yes h ↦ alike (λ (op : ℕ). f (make op ns)) (λ (op : ℕ). g (make op ns)) 0 22 (e ns) op (omega arith) h
+          elim (decLt op (length makers)) [
+            | yes h ↦ alike (λ (op : ℕ). f (make op ns)) (λ (op : ℕ). g (make op ns)) 0 (length makers) (e ns) op (omega arith) h
             | no n ↦ past f op ns (omega arith) ∙ ap (λ (t : List A). getD t 0 (f Instr.End)) (e ns) ∙ sym (past g op ns (omega arith))
           ]
 

@@ -41,9 +41,9 @@ kind-is kinds kind g e =
     eqb-true (getD kinds g 0) kind (rw (below, isKind) at e)
 
 -- an opcode has a row
-pub opcode-below : (version op : ℕ) → hasOpcode version op ≡ true → op < 22
+pub opcode-below : (version op : ℕ) → hasOpcode version op ≡ true → op < length rows
 opcode-below version op e = go (ltb op (length rows)) refl e
   where
-    go : (b : Bool) → ltb op (length rows) ≡ b → elim b as (λ _. Bool) [ true ↦ hasGroup version (rowOf op .group) | false ↦ false ] ≡ true → op < 22
-    go true p e = ltb-true op 22 p
+    go : (b : Bool) → ltb op (length rows) ≡ b → elim b as (λ _. Bool) [ true ↦ hasGroup version (rowOf op .group) | false ↦ false ] ≡ true → op < length rows
+    go true p e = ltb-true op (length rows) p
     go false p e = let z : _≡_ {A = ℕ} 0 1 = cc in absurd (omega arith)

@@ -7,12 +7,13 @@ use native.Mathlib.Numerals.{add-one}
 use native.Mathlib.Nat.{not-suc-le-zero, le-of-suc-le-suc}
 use lib.ListN.{length, getD, take, length-map, List·getD-map}
 use lib.Seq.{take-suc, take-take, length-take-le, getD-take}
-use types.Run.{OneOf, miss}
+use types.Run.{OneOf}
 use denote.Enum.Declared.{tagOf}
 use Rattle.opcodes.specs.declared.Instr.{Instr}
 use Rattle.files.specs.declared.Line.{Line}
-use Rattle.opcodes.specs.View.{View, act, jump, jumpIf, store, check, view}
+use Rattle.opcodes.specs.View.{view}
 use Rattle.opcodes.proofs.Instr.{the-type}
+use Rattle.instructions.proofs.Tables.{agree-on}
 use Rattle.stops.specs.Stop.{counts, placesIn, placeIn}
 use Rattle.stops.specs.Held.{codeOf}
 
@@ -21,28 +22,7 @@ abbrev plain : List ℕ
 plain = 0 ∷ 1 ∷ 2 ∷ 3 ∷ 4 ∷ 5 ∷ 6 ∷ 7 ∷ 8 ∷ 9 ∷ 10 ∷ 11 ∷ 12 ∷ 13 ∷ 14 ∷ 15 ∷ 16 ∷ 17 ∷ []
 
 pub counted : (i : Instr) → OneOf plain (tagOf the-type i) → 1 ≡ counts (view i)
-counted Instr.End one = refl
-counted (Instr.Set a b) one = refl
-counted (Instr.Place a b) one = refl
-counted (Instr.Add a b c) one = refl
-counted (Instr.Sub a b c) one = refl
-counted (Instr.Less a b c) one = refl
-counted (Instr.Load8 a b) one = refl
-counted (Instr.Load32 a b) one = refl
-counted (Instr.Put8 a b c) one = refl
-counted (Instr.Put32 a b c) one = refl
-counted (Instr.Write8 a b c) one = refl
-counted (Instr.Write32 a b c) one = refl
-counted (Instr.Jump a) one = refl
-counted (Instr.JumpIf a b) one = refl
-counted (Instr.Alloc a b c) one = refl
-counted (Instr.Free a) one = refl
-counted (Instr.In a) one = refl
-counted (Instr.Out a) one = refl
-counted (Instr.Check8 a b) one = absurd (miss plain 18 tt one)
-counted (Instr.Check32 a b) one = absurd (miss plain 19 tt one)
-counted (Instr.CheckPut8 a b c) one = absurd (miss plain 20 tt one)
-counted (Instr.CheckPut32 a b c) one = absurd (miss plain 21 tt one)
+counted = agree-on plain (λ i. 1) (λ i. counts (view i)) (λ ns. refl)
 
 abbrev pub blankLine : Line
 blankLine = record { instr = Instr.End }
