@@ -13,12 +13,11 @@ use Rattle.opcodes.specs.declared.Group.{Group}
 use Rattle.opcodes.specs.declared.Operand.{Operand}
 use Rattle.opcodes.specs.declared.Parts.{Parts}
 use Rattle.opcodes.specs.declared.Instr.{Instr}
-use Rattle.opcodes.specs.declared.Instr.the-variants.{End, Place, Add, Sub, Less, Load8, Load32, Put8, Put32, Write8, Write32, Jump, JumpIf, Alloc, Free, In, Out, Check8, Check32, CheckPut8, CheckPut32}
 use Rattle.opcodes.specs.Table.{rowOf, operandsOf, numbersOf, partsOf, named, operandsIn, Each}
 use Rattle.opcodes.specs.Ranges.{Scope, hasGroup, hasOpcode, within, isColor, isKind}
 use Rattle.files.specs.Program.{Program, kindsOf}
 use Rattle.files.specs.Writing.{both, every, goodObject, goodOperand, goodOperands, goodParts, goodInstr, scopeOf}
-use Rattle.opcodes.specs.View.{View, act, jump, jumpIf, store, check, view, checkInstr}
+use Rattle.opcodes.specs.View.{one, four, inGlobal, atTemp, View, act, jump, jumpIf, store, check, view, checkInstr}
 use Rattle.safety.specs.Unsafe.{safeAim, setOf, unsafeSet, setsIn, unsafeSets}
 use Rattle.coloring.specs.Class.{holds, unsafeObject}
 use Rattle.coloring.proofs.Members.{some-behind}
@@ -26,7 +25,7 @@ use Rattle.coloring.specs.Colored.{tinted}
 use Rattle.instrumenter.specs.Instrumented.{checksOf, checkOf, guarded}
 use Rattle.instrumenter.proofs.FileColors.{FileColors}
 use Rattle.files.proofs.Tests.{both-left, both-true, every-head, every-tail, every-cons, every-append}
-use Rattle.files.proofs.GoodInstructions.{Names, names}
+use Rattle.files.proofs.GoodInstructions.{Ranged, ranged, Names, names}
 use Rattle.files.proofs.SpelledInstructions.{GoodParts, good-parts, Good as Operand-good}
 use Rattle.files.proofs.RoundTrip.{Good}
 use Rattle.opcodes.proofs.Bounds.{within-true, opcode-below}
@@ -98,9 +97,6 @@ opcode-kept op e = go (ltb op 22) (rowOf op .group) e
     go false g e = e
 
 module _ (p : Program) (r : Good 1 p) (lines : ℕ) (target : ℕ → ℕ) (inside : (t : ℕ) → ltb t (length (p .code)) ≡ true → ltb (target t) lines ≡ true) where
-  operands : (i : Instr) → goodInstr (scopeOf 1 p) i ≡ true → Each (Operand-good (scopeOf 1 p)) (operandsIn (partsOf i))
-  operands i h = good-parts (scopeOf 1 p) (partsOf i) h .operands
-
   -- the copy of an instruction: each operand is in its new range
   operand-moved : (kind : Operand) (n : ℕ) → Operand-good (scopeOf 1 p) kind n → Operand-good (newScope p lines) kind (movedOperand target kind n)
   operand-moved Operand.None n g = g
@@ -153,29 +149,18 @@ module _ (p : Program) (r : Good 1 p) (lines : ℕ) (target : ℕ → ℕ) (insi
   GoodCheck (store aim b s) = (c : ℕ) → within 2 255 c ≡ true → goodInstr (newScope p lines) (checkInstr aim c) ≡ true
   GoodCheck (check aim c) = Unit
 
+  check-ranged : (v : View) → Ranged (scopeOf 1 p) v → GoodCheck v
+  check-ranged (act x) r = tt
+  check-ranged (jump t) r = tt
+  check-ranged (jumpIf a t) r = tt
+  check-ranged (store (inGlobal g k one) b s) r = λ c w. put-check g k c (r .0) (r .1) w
+  check-ranged (store (inGlobal g k four) b s) r = λ c w. put-check g k c (r .0) (r .1) w
+  check-ranged (store (atTemp a one) b s) r = λ c w. write-check a c (r .0) w
+  check-ranged (store (atTemp a four) b s) r = λ c w. write-check a c (r .0) w
+  check-ranged (check aim c) r = tt
+
   good-check : (i : Instr) → goodInstr (scopeOf 1 p) i ≡ true → GoodCheck (view i)
-  good-check End h = tt
-  good-check (Instr.Set d n) h = tt
-  good-check (Place d g) h = tt
-  good-check (Add d a b) h = tt
-  good-check (Sub d a b) h = tt
-  good-check (Less d a b) h = tt
-  good-check (Load8 d a) h = tt
-  good-check (Load32 d a) h = tt
-  good-check (Put8 g k a) h = let q = operands (Put8 g k a) h in λ c w. put-check g k c (q .0) (q .1 .0) w
-  good-check (Put32 g k a) h = let q = operands (Put32 g k a) h in λ c w. put-check g k c (q .0) (q .1 .0) w
-  good-check (Write8 a b s) h = let q = operands (Write8 a b s) h in λ c w. write-check a c (q .0) w
-  good-check (Write32 a b s) h = let q = operands (Write32 a b s) h in λ c w. write-check a c (q .0) w
-  good-check (Jump t) h = tt
-  good-check (JumpIf a t) h = tt
-  good-check (Alloc d g a) h = tt
-  good-check (Free a) h = tt
-  good-check (In d) h = tt
-  good-check (Out a) h = tt
-  good-check (Check8 a c) h = tt
-  good-check (Check32 a c) h = tt
-  good-check (CheckPut8 g k c) h = tt
-  good-check (CheckPut32 g k c) h = tt
+  good-check i h = check-ranged (view i) (ranged (scopeOf 1 p) i h)
 
   checks-in : (color : ℕ → ℕ) (v : View) (rest : List (List ℕ)) → Names p v → GoodCheck v
       → ((x : ℕ) → unsafeObject (unsafeSet p v ++ rest) x ≡ true → within 2 255 (color x) ≡ true)

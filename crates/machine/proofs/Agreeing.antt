@@ -18,7 +18,8 @@ use Rattle.files.specs.Program.{Program, kindsOf}
 use Rattle.opcodes.specs.View.{Aim, inGlobal, atTemp, Act, View, act, jump, jumpIf, store, check, view}
 use Rattle.files.specs.Writing.{every, goodInstr, scopeOf}
 use Rattle.opcodes.proofs.Bounds.{kind-below}
-use Rattle.files.proofs.Tests.{both-left, both-right, every-at}
+use Rattle.files.proofs.Tests.{every-at}
+use Rattle.files.proofs.GoodInstructions.{RangedAct, Ranged, ranged}
 use Rattle.heap.specs.Heap.{Made, Freed, Alloc, alloc}
 use Rattle.machine.specs.State.{Span, Rule, Given, State, temp}
 use Rattle.machine.specs.Step.{Next, stop, next, conclude, allocating, perform, step, becomes}
@@ -128,29 +129,27 @@ module _ {S : Type 0} (p : Program) (start start′ : ℕ → ℕ) (allows : S �
   global : (g : ℕ) → isKind (kindsOf (p .objects)) 0 g ≡ true → start g ≡ start′ g
   global g e = same g (omega (arith, kind-below (kindsOf (p .objects)) 0 g e, length-map (p .objects) (λ o. o .kind)))
 
-  names-objects : (i : Instr) → goodInstr (scopeOf 2 p) i ≡ true → Fine (view i)
-  names-objects Instr.End e = tt
-  names-objects (Instr.Set x y) e = tt
-  names-objects (Instr.Place x y) e = global y (both-left _ _ (both-right (ltb x 16) _ e))
-  names-objects (Instr.Add x y z) e = tt
-  names-objects (Instr.Sub x y z) e = tt
-  names-objects (Instr.Less x y z) e = tt
-  names-objects (Instr.Load8 x y) e = tt
-  names-objects (Instr.Load32 x y) e = tt
-  names-objects (Instr.Put8 x y z) e = global x (both-left _ _ e)
-  names-objects (Instr.Put32 x y z) e = global x (both-left _ _ e)
-  names-objects (Instr.Write8 x y z) e = tt
-  names-objects (Instr.Write32 x y z) e = tt
-  names-objects (Instr.Jump x) e = tt
-  names-objects (Instr.JumpIf x y) e = tt
-  names-objects (Instr.Alloc x y z) e = tt
-  names-objects (Instr.Free x) e = tt
-  names-objects (Instr.In x) e = tt
-  names-objects (Instr.Out x) e = tt
-  names-objects (Instr.Check8 x y) e = tt
-  names-objects (Instr.Check32 x y) e = tt
-  names-objects (Instr.CheckPut8 x y z) e = global x (both-left _ _ e)
-  names-objects (Instr.CheckPut32 x y z) e = global x (both-left _ _ e)
+  fine-act : (x : Act) → RangedAct (scopeOf 2 p) x → Fine (act x)
+  fine-act Act.end r = tt
+  fine-act (Act.set d n) r = tt
+  fine-act (Act.place d g) r = global g r
+  fine-act (Act.add d a b) r = tt
+  fine-act (Act.sub d a b) r = tt
+  fine-act (Act.less d a b) r = tt
+  fine-act (Act.load d a w) r = tt
+  fine-act (Act.alloc d g a) r = tt
+  fine-act (Act.free a) r = tt
+  fine-act (Act.input d) r = tt
+  fine-act (Act.output a) r = tt
+
+  fine : (v : View) → Ranged (scopeOf 2 p) v → Fine v
+  fine (act x) r = fine-act x r
+  fine (jump t) r = tt
+  fine (jumpIf a t) r = tt
+  fine (store (inGlobal g k w) b s) r = global g (r .0)
+  fine (store (atTemp a w) b s) r = tt
+  fine (check (inGlobal g k w) c) r = global g (r .0)
+  fine (check (atTemp a w) c) r = tt
 
   pub agrees : every (goodInstr (scopeOf 2 p)) (p .code) ≡ true → (at : ℕ) → at < length (p .code) → Fine (view (getD (p .code) at Instr.End))
-  agrees good at h = names-objects (getD (p .code) at Instr.End) (every-at (goodInstr (scopeOf 2 p)) (p .code) Instr.End at good h)
+  agrees good at h = fine (view (getD (p .code) at Instr.End)) (ranged (scopeOf 2 p) (getD (p .code) at Instr.End) (every-at (goodInstr (scopeOf 2 p)) (p .code) Instr.End at good h))

@@ -11,7 +11,7 @@ use types.Run.{OneOf}
 use denote.Enum.Declared.{tagOf}
 use Rattle.opcodes.specs.declared.Instr.{Instr}
 use Rattle.files.specs.declared.Line.{Line}
-use Rattle.opcodes.specs.View.{view}
+use Rattle.opcodes.specs.View.{View, act, jump, jumpIf, store, check, view}
 use Rattle.opcodes.proofs.Instr.{the-type}
 use Rattle.instructions.proofs.Tables.{agree-on}
 use Rattle.stops.specs.Stop.{counts, placesIn, placeIn}
