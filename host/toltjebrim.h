@@ -23,7 +23,7 @@ extern "C" {
 #define TOLTJEBRIM_ROUTINE 16384
 
 /* No call takes more bytes of stack than this; tests/host.sh measures it. */
-#define TOLTJEBRIM_STACK 458752
+#define TOLTJEBRIM_STACK 491520
 
 /* The reasons. From 30 on, and 0: how a run stopped. From 1 to 11: why there was none. */
 enum toltjebrim_reason {

@@ -14,7 +14,7 @@ pub const TABLE: usize = 7_168;
 pub const ROUTINE: usize = 16_384;
 
 /// No call takes more bytes of stack than this; a thread of a smaller stack dies.
-pub const STACK: usize = 458_752;
+pub const STACK: usize = 491_520;
 
 /// How a run stopped (0, and from 30 on), or why there was none (1 to 11).
 #[derive(Clone, Copy, Debug, PartialEq, Eq)]

@@ -1,13 +1,14 @@
 -- What an opcode number says of the instruction that it makes.
-use Prim.Native.Nat.{ℕ, _≤_, _<_}
+use Prim.Native.Nat.{ℕ, _-_, _≤_, _<_}
 use native.Mathlib.Omega.{arith}
+use native.Mathlib.Decide.{decLt}
 use mathlib.Core.Path.{_≡_, refl}
 use mathlib.Core.List.{List, [], _∷_}
-use lib.ListN.{getD}
+use lib.ListN.{length, getD}
 use borrow.Author.Tests.{lt-ltb, le-ltb}
 use Rattle.opcodes.specs.declared.Instr.{Instr}
 use Rattle.opcodes.specs.declared.Parts.{Parts}
-use Rattle.opcodes.specs.Table.{make, numbersOf, partsOf}
+use Rattle.opcodes.specs.Table.{makers, make, numbersOf, partsOf}
 use Rattle.opcodes.specs.View.{view}
 use Rattle.instructions.proofs.Parting.{make-parts}
 use Rattle.safety.specs.declared.Nature.{Nature}
@@ -36,7 +37,7 @@ module _ (size : ℕ → ℕ) (x y z w : ℕ) where
   pub at-checks : (op : ℕ) → 18 ≤ op → op < 22 → made op ≡ Nature.Check
   at-checks = alike made (λ op. Nature.Check) 18 4 refl
 
-  -- the rest: before the stores, between jumps and checks, and past the table
+  -- the rest: before the stores, between jumps and checks, and behind the checks
   pub at-first : (op : ℕ) → op < 8 → made op ≡ Nature.Other
   at-first op h = alike made (λ op. Nature.Other) 0 8 refl op (omega arith) h
 
@@ -44,7 +45,11 @@ module _ (size : ℕ → ℕ) (x y z w : ℕ) where
   at-between = alike made (λ op. Nature.Other) 14 4 refl
 
   pub at-past : (op : ℕ) → 22 ≤ op → made op ≡ Nature.Other
-  at-past op h = past (λ i. natureOf size (view i)) op (x ∷ y ∷ z ∷ w ∷ []) h
+  at-past op h =
+      elim (decLt op (length makers)) [
+        | yes below ↦ alike made (λ op. Nature.Other) 22 (length makers - 22) refl op h below
+        | no beyond ↦ past (λ i. natureOf size (view i)) op (x ∷ y ∷ z ∷ w ∷ []) (omega arith)
+      ]
 
 -- only the size of the first operand is looked at
 nature-size : (f : ℕ → ℕ) (i : Instr) → natureOf (λ g. f (partsOf i .x)) (view i) ≡ natureOf f (view i)
