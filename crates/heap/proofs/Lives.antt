@@ -1,7 +1,7 @@
 -- FREE: the live block that the loop finds is the one that the definition frees.
 --
 -- The picture: by induction over the walk, the list of blocks has no live block whose body is at the
--- address, and then the loop found nothing and the definition answers bad; or it has one, and then the loop
+-- address, and then the loop found 0 and the definition answers bad; or it has one, and then the loop
 -- found where the joined block starts. Behind a block whose body is at the address the headers lie
 -- higher, so the loop changes nothing more; what the block behind adds is read at its header, which was
 -- walked, so the joined block ends at or below the end slot.
@@ -15,12 +15,12 @@ use lib.Dec.{eqb}
 use borrow.Author.Tests.{eq-eqb, ne-eqb, eqb-true}
 use Rattle.heap.specs.declared.Search.{Search}
 use Rattle.heap.specs.declared.Release.{Release}
-use Rattle.memory.specs.Memory.{exact, numberAt, paint}
+use Rattle.memory.specs.Memory.{memorySize, tableSize, exact, numberAt, paint}
 use Rattle.heap.specs.Heap.{Block, Freed, Free, isFree, endSlot, heapStart, blockAt, sound, Walk, unsound, blocks, withBlock, walkFrom, walk, putHeader, spare, freeIn, freeWalked, free}
 use Rattle.heap.specs.Lent.{afterFree, released}
-use Rattle.heap.specs.Search.{spareOf, spareAt, liveOf, liveAmong, liveIn, wholeOf, Joining}
+use Rattle.heap.specs.Search.{spareOf, spareAt, startOf, startIn, liveIn, wholeOf, Joining}
 use Rattle.heap.proofs.Blocks.{Same, same-as}
-use Rattle.memory.proofs.Exact.{exact-lengths}
+use Rattle.heap.proofs.Exact.{released-exact}
 use Rattle.heap.proofs.Walks.{Sound, sound-says, nextOf, spare-below}
 
 module _ (m : List ℕ) where
@@ -63,26 +63,26 @@ module _ (m : List ℕ) where
 
     abbrev StaysIn : Walk → Type 0
     StaysIn unsound = Unit {0}
-    StaysIn (blocks bs) = (found : Search) (spare : ℕ) → liveAmong found spare address bs ≡ found
+    StaysIn (blocks bs) = (start spare : ℕ) → startIn start spare address bs ≡ start
 
     stays-walk : (left at : ℕ) → address < at + 8 → StaysIn (walkFrom left m at)
-    unfolding walkFrom liveAmong blockAt
+    unfolding walkFrom startIn blockAt
     stays-walk zero at above = go (eqb at endSlot) refl
       where
         go : (x : Bool) → eqb at endSlot ≡ x → StaysIn (walkFrom zero m at)
-        go true e = rw (e, walkFrom) (λ found sp. refl)
+        go true e = rw (e, walkFrom) (λ start sp. refl)
         go false e = rw (e, walkFrom) tt
     stays-walk (suc left) at above = go (eqb at endSlot) refl (sound (blockAt m at)) refl (stays-walk left (nextOf m at) (omega arith))
       where
         on : (w : Walk) → StaysIn w → StaysIn (withBlock (blockAt m at) w)
         on unsound later = tt
-        on (blocks bs) later = λ found sp.
-            let same : liveOf found sp address (blockAt m at) ≡ found = rw (ne-eqb (at + 8) address (λ e. omega arith), liveOf) refl in
-            ap (λ x. liveAmong x (spareOf (blockAt m at)) address bs) same ∙ later found (spareOf (blockAt m at))
+        on (blocks bs) later = λ start sp.
+            let same : startOf start sp address (blockAt m at) ≡ start = rw (ne-eqb (at + 8) address (λ e. omega arith), startOf) refl in
+            ap (λ x. startIn x (spareOf (blockAt m at)) address bs) same ∙ later start (spareOf (blockAt m at))
 
         go : (x : Bool) → eqb at endSlot ≡ x → (y : Bool) → sound (blockAt m at) ≡ y → StaysIn (walkFrom left m (nextOf m at))
             → StaysIn (walkFrom (suc left) m at)
-        go true e y s later = rw (e, walkFrom) (λ found sp. refl)
+        go true e y s later = rw (e, walkFrom) (λ start sp. refl)
         go false e true s later = rw (e, s, walkFrom) (on (walkFrom left m (nextOf m at)) later)
         go false e false s later = rw (e, s, walkFrom) tt
 
@@ -90,6 +90,7 @@ module _ (m : List ℕ) where
 
     -- the joined block's start, and that it ends at or below the end slot
     pub record Joins (start : ℕ) : Type 0 where
+      pub low : heapStart ≤ start
       pub above : start + 8 ≤ address
       pub next : address + numberAt 4 m (address - 8) ≤ endSlot
       pub ends : address + numberAt 4 m (address - 8) + spareAt m (address + numberAt 4 m (address - 8)) ≤ endSlot
@@ -98,8 +99,8 @@ module _ (m : List ℕ) where
     joined start = record { header = start; size = wholeOf m start address; memory = putHeader m start (wholeOf m start address) 0 }
 
     data Lives (previous bs : List Block) : Type 0 where
-      missing : liveAmong Search.Nothing (spare previous) address bs ≡ Search.Nothing → freeIn m previous bs address ≡ Free.bad → Lives previous bs
-      live : (start : ℕ) → liveAmong Search.Nothing (spare previous) address bs ≡ Search.Found start → freeIn m previous bs address ≡ Free.freed
+      missing : startIn 0 (spare previous) address bs ≡ 0 → freeIn m previous bs address ≡ Free.bad → Lives previous bs
+      live : (start : ℕ) → startIn 0 (spare previous) address bs ≡ start → freeIn m previous bs address ≡ Free.freed
           (joined start) → Joins start → Lives previous bs
 
     abbrev LivesIn : (previous : List Block) → Walk → Type 0
@@ -109,15 +110,15 @@ module _ (m : List ℕ) where
     module _ (previous : List Block) (at : ℕ) (low : spare previous + heapStart ≤ at) (s : sound (blockAt m at) ≡ true) where
       -- a block whose body is elsewhere changes nothing but what is before
       passed : (bs : List Block) → eqb (at + 8) address ≡ false → Lives (blockAt m at ∷ []) bs → Lives previous (blockAt m at ∷ bs)
-      unfolding liveAmong freeIn blockAt
+      unfolding startIn freeIn blockAt
       passed bs e (missing f g) =
-          missing (ap (λ x. liveAmong x (spareOf (blockAt m at)) address bs) (rw (e, liveOf) refl) ∙ f) (rw (e, freeIn) g)
+          missing (ap (λ x. startIn x (spareOf (blockAt m at)) address bs) (rw (e, startOf) refl) ∙ f) (rw (e, freeIn) g)
       passed bs e (live start f g k) =
-          live start (ap (λ x. liveAmong x (spareOf (blockAt m at)) address bs) (rw (e, liveOf) refl) ∙ f) (rw (e, freeIn) g) k
+          live start (ap (λ x. startIn x (spareOf (blockAt m at)) address bs) (rw (e, startOf) refl) ∙ f) (rw (e, freeIn) g) k
 
       lives-cons : (bs : List Block) → (address ≡ at + 8 → StaysIn (blocks bs)) → SpareIn (nextOf m at) (blocks bs) → Lives
           (blockAt m at ∷ []) bs → Lives previous (blockAt m at ∷ bs)
-      unfolding liveAmong freeIn blockAt
+      unfolding startIn freeIn blockAt
       lives-cons bs stays spared later = go (eqb (at + 8) address) refl (isFree (blockAt m at)) refl
         where
           known : Sound at (numberAt 4 m at)
@@ -125,23 +126,24 @@ module _ (m : List ℕ) where
 
           go : (x : Bool) → eqb (at + 8) address ≡ x → (y : Bool) → isFree (blockAt m at) ≡ y → Lives previous (blockAt m at ∷ bs)
           go true e true f =
-              let same : liveOf Search.Nothing (spare previous) address (blockAt m at) ≡ Search.Nothing = rw (e, f, liveOf) refl in
+              let same : startOf 0 (spare previous) address (blockAt m at) ≡ 0 = rw (e, f, startOf) refl in
               missing
-              (ap (λ x. liveAmong x (spareOf (blockAt m at)) address bs) same ∙ stays (sym (eqb-true (at + 8) address e)) Search.Nothing
+              (ap (λ x. startIn x (spareOf (blockAt m at)) address bs) same ∙ stays (sym (eqb-true (at + 8) address e)) 0
               (spareOf (blockAt m at)))
               (rw (e, f, freeIn) refl)
           go true e false f =
               let is : at + 8 ≡ address = eqb-true (at + 8) address e in
               let start : ℕ = at - spare previous in
-              let found : liveOf Search.Nothing (spare previous) address (blockAt m at) ≡ Search.Found start = rw (e, f, liveOf) refl in
+              let found : startOf 0 (spare previous) address (blockAt m at) ≡ start = rw (e, f, startOf) refl in
               let back : address - 8 ≡ at = omega arith in
               let size : numberAt 4 m (address - 8) ≡ numberAt 4 m at = ap (numberAt 4 m) back in
               let next : address + numberAt 4 m (address - 8) ≡ nextOf m at = omega arith in
               let behind : spareAt m (address + numberAt 4 m (address - 8)) ≡ spareAt m (nextOf m at) = ap (spareAt m) next in
               let whole : spare previous + numberAt 4 m at + spare bs ≡ wholeOf m start address = omega (arith, spared .0, behind, size) in
-              live start (ap (λ x. liveAmong x (spareOf (blockAt m at)) address bs) found ∙ stays (sym is) (Search.Found start) (spareOf (blockAt m at)))
+              live start (ap (λ x. startIn x (spareOf (blockAt m at)) address bs) found ∙ stays (sym is) start (spareOf (blockAt m at)))
               (rw (e, f, freeIn) (ap (λ x. Free.freed (record { header = start; size = x; memory = putHeader m start x 0 })) whole))
               (record {
+                low = omega arith;
                 above = omega arith;
                 next = omega (arith, known .ends);
                 ends = omega
@@ -156,7 +158,7 @@ module _ (m : List ℕ) where
 
     lives-walk : (left at : ℕ) (previous : List Block) → spare previous + heapStart ≤ at → at ≤ endSlot → LivesIn previous
         (walkFrom left m at)
-    unfolding walkFrom liveAmong freeIn
+    unfolding walkFrom startIn freeIn
     lives-walk zero at previous low high = go (eqb at endSlot) refl
       where
         go : (x : Bool) → eqb at endSlot ≡ x → LivesIn previous (walkFrom zero m at)
@@ -182,47 +184,63 @@ module _ (m : List ℕ) where
 
 -- ---- what FREE answers
 
+-- what a start that was found says: there is none, or the block is joined
+pub data Found (m t : List ℕ) (address start : ℕ) : Type 0 where
+  bad : start ≡ 0 → Same Release.Bad m t (released m t address) → Found m t address start
+  joins : (start ≡ 0 → ⊥) → Joining m t start address
+      → Same Release.Freed (putHeader m start (wholeOf m start address) 0) (paint t (start + 8) (wholeOf m start address) 0)
+      (released m t address)
+      → Found m t address start
+
+module _ {m t : List ℕ} {address start : ℕ} where
+  pub found-none : Found m t address start → start ≡ 0 → Same Release.Bad m t (released m t address)
+  found-none (bad z e) h = e
+  found-none (joins some k e) h = absurd (some h)
+
+  pub found-joins : Found m t address start → (start ≡ 0 → ⊥) → Joining m t start address
+  found-joins (bad z e) h = absurd (h z)
+  found-joins (joins some k e) h = k
+
+  pub found-freed : Found m t address start → (start ≡ 0 → ⊥) → (m′ t′ : List ℕ) → m′ ≡ putHeader m start (wholeOf m start address) 0
+      → t′ ≡ paint t (start + 8) (wholeOf m start address) 0 → Same Release.Freed m′ t′ (released m t address)
+  found-freed (bad z e) h m′ t′ em et = absurd (h z)
+  found-freed (joins some k e) h m′ t′ em et = (e .0, (em ∙ e .1 .0, et ∙ e .1 .1))
+
 module _ (m t : List ℕ) (address : ℕ) where
-  abbrev Answers : Release → (m′ t′ : List ℕ) → Type 0
-  Answers a m′ t′ = Same a m′ t′ (released m t address)
-
-  -- the block that starts where it was found is joined
-  pub record Spot (start : ℕ) : Type 0 where
-    pub joining : Joining m t start address
-    pub joined : (m′ t′ : List ℕ) → m′ ≡ putHeader m start (wholeOf m start address) 0
-        → t′ ≡ paint t (start + 8) (wholeOf m start address) 0 → Answers Release.Freed m′ t′
-
-  -- what each answer of the search says
-  abbrev pub Says : Search → Type 0
-  Says Search.Unsound = Answers Release.Unsound m t
-  Says Search.Nothing = Answers Release.Bad m t
-  Says (Search.Found start) = Spot start
-
-  pub wrong-lengths : exact m t ≡ false → Answers Release.WrongLength m t
+  pub wrong-memory : (length m ≡ memorySize → ⊥) → Same Release.WrongLength m t (released m t address)
   unfolding released
-  wrong-lengths e = same-as _ _ _ _ (rw (e, released) refl)
+  wrong-memory h = same-as _ _ _ _ (rw (ne-eqb (length m) memorySize h, exact, released) refl)
 
-  module _ (lengths : exact m t ≡ true) where
-    after : (w : Walk) → walk m ≡ w → (f : Free) → freeWalked m address w ≡ f → released m t address ≡ afterFree m t f
-    unfolding released free
-    after w q f e = rw (lengths, released) (ap (λ x. afterFree m t (freeWalked m address x)) q ∙ ap (afterFree m t) e)
+  module _ (hm : length m ≡ memorySize) where
+    pub wrong-table : (length t ≡ tableSize → ⊥) → Same Release.WrongLength m t (released m t address)
+    unfolding released
+    wrong-table h = same-as _ _ _ _ (rw (eq-eqb (length m) memorySize hm, ne-eqb (length t) tableSize h, exact, released) refl)
 
-    spot : (start : ℕ) → released m t address ≡ afterFree m t (Free.freed (joined m address start)) → Joins m address start → Spot start
-    spot start a k =
-        let both = exact-lengths m t lengths in
-        record {
-          joining = record { memory = both .0; table = both .1; above = k .above; next = k .next; ends = k .ends };
-          joined = λ m′ t′ em et. (
-            sym (ap (λ x. x .answer) a),
-            (em ∙ sym (ap (λ x. x .memory) a), et ∙ sym (ap (λ x. x .table) a)),
-          );
-        }
+    module _ (ht : length t ≡ tableSize) where
+      after : (w : Walk) → walk m ≡ w → (f : Free) → freeWalked m address w ≡ f → released m t address ≡ afterFree m t f
+      unfolding free
+      after w q f e =
+          released-exact m t hm ht address ∙ ap (λ x. afterFree m t (freeWalked m address x)) q ∙ ap (afterFree m t) e
 
-    pub searched : (r : Search) → r ≡ liveIn Search.Nothing 0 address (walk m) → Says r
-    searched r e = subst Says (sym e) (go (walk m) refl (lives-walk m address 1792 heapStart [] (omega arith) (omega arith)))
-      where
-        go : (w : Walk) → walk m ≡ w → LivesIn m address [] w → Says (liveIn Search.Nothing 0 address w)
-        go unsound q k = same-as _ _ _ _ (after unsound q Free.stopped refl)
-        go (blocks bs) q (missing z n) = subst Says (sym z) (same-as _ _ _ _ (after (blocks bs) q Free.bad n))
-        go (blocks bs) q (live start z n k) =
-            subst Says (sym z) (spot start (after (blocks bs) q (Free.freed (joined m address start)) n) k)
+      pub stopped : Search.Unsound ≡ liveIn 0 0 address (walk m) → Same Release.Unsound m t (released m t address)
+      stopped e = go (walk m) refl e
+        where
+          go : (w : Walk) → walk m ≡ w → Search.Unsound ≡ liveIn 0 0 address w → Same Release.Unsound m t (released m t address)
+          go unsound q f = same-as _ _ _ _ (after unsound q Free.stopped refl)
+          go (blocks bs) q f = absurd (let z : _≡_ {A = ℕ} 0 1 = cc in omega arith)
+
+      pub found : (start : ℕ) → Search.Found start ≡ liveIn 0 0 address (walk m) → Found m t address start
+      found start e = go (walk m) refl e (lives-walk m address 1792 heapStart [] (omega arith) (omega arith))
+        where
+          go : (w : Walk) → walk m ≡ w → Search.Found start ≡ liveIn 0 0 address w → LivesIn m address [] w → Found m t address start
+          go unsound q f k = absurd (let z : _≡_ {A = ℕ} 0 1 = cc in omega arith)
+          go (blocks bs) q f (missing z n) =
+              let f′ : Search.Found start ≡ Search.Found (startIn 0 0 address bs) = f in
+              let is : start ≡ startIn 0 0 address bs = cc in
+              bad (is ∙ z) (same-as _ _ _ _ (after (blocks bs) q Free.bad n))
+          go (blocks bs) q f (live s z n k) =
+              let f′ : Search.Found start ≡ Search.Found (startIn 0 0 address bs) = f in
+              let is : start ≡ startIn 0 0 address bs = cc in
+              subst (λ x. Found m t address x) (sym (is ∙ z))
+              (joins (λ y. omega (arith, k .low)) (record { memory = hm; table = ht; above = k .above; next = k .next; ends = k .ends })
+              (same-as _ _ _ _ (after (blocks bs) q (Free.freed (joined m address s)) n)))

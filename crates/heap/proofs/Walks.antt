@@ -14,7 +14,7 @@ use borrow.Author.Tests.{eq-eqb, ne-eqb, eqb-true, leb-true}
 use Rattle.heap.specs.declared.Search.{Search}
 use Rattle.memory.specs.Memory.{numberAt}
 use Rattle.heap.specs.Heap.{Block, endSlot, heapStart, blockAt, sound, Walk, unsound, blocks, withBlock, walkFrom, walk}
-use Rattle.heap.specs.Search.{firstOf, firstAmong, fitIn, spareOf, liveOf, liveAmong, liveIn}
+use Rattle.heap.specs.Search.{firstOf, foundIn, fitIn, spareOf, startOf, startIn, liveIn}
 
 -- the next header
 abbrev pub nextOf : List ℕ → (at : ℕ) → ℕ
@@ -117,18 +117,17 @@ module _ {m : List ℕ} {at : ℕ} {search : Walk → Search} {goal : Search} (w
 
 -- ---- the two searches, one block on
 
-pub fit-step : (found : Search) (want : ℕ) (b : Block) (found′ : Search) → found′ ≡ firstOf found want b → (w : Walk)
-    → fitIn found want (withBlock b w) ≡ fitIn found′ want w
-unfolding firstAmong
+pub fit-step : (found want : ℕ) (b : Block) (found′ : ℕ) → found′ ≡ firstOf found want b → (w : Walk) → fitIn found want
+    (withBlock b w) ≡ fitIn found′ want w
+unfolding foundIn
 fit-step found want b found′ e unsound = refl
-fit-step found want b found′ e (blocks bs) = ap (λ x. firstAmong x want bs) (sym e)
+fit-step found want b found′ e (blocks bs) = ap (λ x. Search.Found (foundIn x want bs)) (sym e)
 
-pub live-step : (found : Search) (spare address : ℕ) (b : Block) (found′ : Search) (spare′ : ℕ)
-    → found′ ≡ liveOf found spare address b → spare′ ≡ spareOf b → (w : Walk)
-    → liveIn found spare address (withBlock b w) ≡ liveIn found′ spare′ address w
-unfolding liveAmong
-live-step found spare address b found′ spare′ e₁ e₂ unsound = refl
-live-step found spare address b found′ spare′ e₁ e₂ (blocks bs) = ap₂ (λ x y. liveAmong x y address bs) (sym e₁) (sym e₂)
+pub live-step : (start spare address : ℕ) (b : Block) (start′ spare′ : ℕ) → start′ ≡ startOf start spare address b → spare′ ≡ spareOf b
+    → (w : Walk) → liveIn start spare address (withBlock b w) ≡ liveIn start′ spare′ address w
+unfolding startIn
+live-step start spare address b start′ spare′ e₁ e₂ unsound = refl
+live-step start spare address b start′ spare′ e₁ e₂ (blocks bs) = ap₂ (λ x y. Search.Found (startIn x y address bs)) (sym e₁) (sym e₂)
 
 -- what a block adds is not more than what it takes
 pub spare-below : (header size mark spare : ℕ) → spare ≡ spareOf (blockOf header size mark) → spare ≤ 8 + size

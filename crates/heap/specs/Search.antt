@@ -10,27 +10,24 @@ use Rattle.heap.specs.declared.Search.{Search}
 use Rattle.memory.specs.Memory.{memorySize, tableSize, numberAt}
 use Rattle.heap.specs.Heap.{Block, bodyOf, isFree, blockAt, endSlot, Walk, unsound, blocks}
 
--- ---- ALLOC's search: the header of the first free block that holds the size
+-- ---- ALLOC's search: the header of the first free block that holds the size, 0 while there is none
 
--- what was found before stays
-abbrev pub firstOf : (found : Search) (want : ℕ) → Block → Search
-firstOf Search.Unsound want b = Search.Unsound
-firstOf (Search.Found header) want b = Search.Found header
-firstOf Search.Nothing want b =
-    elim (isFree b) [
-      | true ↦ elim (leb want (b .size)) [ true ↦ Search.Found (b .header) | false ↦ Search.Nothing ]
-      | false ↦ Search.Nothing
+abbrev pub firstOf : (found want : ℕ) → Block → ℕ
+firstOf found want b =
+    elim (eqb found 0) [
+      | false ↦ found
+      | true ↦ elim (isFree b) [ false ↦ 0 | true ↦ elim (leb want (b .size)) [ true ↦ b .header | false ↦ 0 ] ]
     ]
 
-unfoldable pub firstAmong : (found : Search) (want : ℕ) → List Block → Search
-firstAmong found want [] = found
-firstAmong found want (b ∷ bs) = firstAmong (firstOf found want b) want bs
+unfoldable pub foundIn : (found want : ℕ) → List Block → ℕ
+foundIn found want [] = found
+foundIn found want (b ∷ bs) = foundIn (firstOf found want b) want bs
 
-abbrev pub fitIn : (found : Search) (want : ℕ) → Walk → Search
+abbrev pub fitIn : (found want : ℕ) → Walk → Search
 fitIn found want unsound = Search.Unsound
-fitIn found want (blocks bs) = firstAmong found want bs
+fitIn found want (blocks bs) = Search.Found (foundIn found want bs)
 
--- ---- FREE's search: where the joined block starts, if the address is the body of a live block
+-- ---- FREE's search: where the joined block would start, 0 while the address was not met
 
 -- what a block adds to a neighbour that joins it
 abbrev pub spareOf : Block → ℕ
@@ -40,20 +37,20 @@ abbrev pub spareAt : List ℕ → (header : ℕ) → ℕ
 spareAt m header = elim (eqb header endSlot) [ true ↦ 0 | false ↦ spareOf (blockAt m header) ]
 
 -- `spare` is what the block before adds
-abbrev pub liveOf : (found : Search) (spare address : ℕ) → Block → Search
-liveOf found spare address b =
+abbrev pub startOf : (start spare address : ℕ) → Block → ℕ
+startOf start spare address b =
     elim (eqb (bodyOf b) address) [
-      | true ↦ elim (isFree b) [ true ↦ found | false ↦ Search.Found (b .header - spare) ]
-      | false ↦ found
+      | true ↦ elim (isFree b) [ true ↦ start | false ↦ b .header - spare ]
+      | false ↦ start
     ]
 
-unfoldable pub liveAmong : (found : Search) (spare address : ℕ) → List Block → Search
-liveAmong found spare address [] = found
-liveAmong found spare address (b ∷ bs) = liveAmong (liveOf found spare address b) (spareOf b) address bs
+unfoldable pub startIn : (start spare address : ℕ) → List Block → ℕ
+startIn start spare address [] = start
+startIn start spare address (b ∷ bs) = startIn (startOf start spare address b) (spareOf b) address bs
 
-abbrev pub liveIn : (found : Search) (spare address : ℕ) → Walk → Search
-liveIn found spare address unsound = Search.Unsound
-liveIn found spare address (blocks bs) = liveAmong found spare address bs
+abbrev pub liveIn : (start spare address : ℕ) → Walk → Search
+liveIn start spare address unsound = Search.Unsound
+liveIn start spare address (blocks bs) = Search.Found (startIn start spare address bs)
 
 -- ---- what is known where memory and table are changed
 

@@ -5,18 +5,18 @@ ghost use lib.ListN.{length};
 ghost use Rattle.memory.specs.Memory.{memorySize, paint};
 ghost use Rattle.heap.specs.Heap.{endSlot, walk, putHeader};
 ghost use Rattle.heap.specs.Lent.{released};
-ghost use Rattle.heap.specs.declared.Search.{Search};
-ghost use Rattle.heap.specs.Search.{spareOf, spareAt, liveOf, liveIn, wholeOf, Joining};
+ghost use Rattle.heap.specs.Search.{spareOf, spareAt, startOf, liveIn, wholeOf, Joining};
 use crate::END;
 use crate::HEAP;
+use crate::MEMORY;
 use crate::Release;
 use crate::Search;
+use crate::TABLE;
 use crate::headers::is_sound;
 use crate::headers::mark_at;
 use crate::headers::put_header;
 use crate::headers::size_at;
 use memory::colors::paint;
-use memory::lengths::are_exact;
 
 // What a block adds to a neighbour that joins it: header and body where it is free.
 fn spare_of(size: usize, mark: u32) -> usize
@@ -31,26 +31,26 @@ fn spare_of(size: usize, mark: u32) -> usize
 
 // Where the joined block would start: known before, or at this block where it is live and its body
 // is at the address; `spare` is what the block before adds.
-fn live_of(found: Search, spare: usize, address: usize, header: usize, mark: u32) -> Search
+fn start_of(start: usize, spare: usize, address: usize, header: usize, mark: u32) -> usize
     requires { ⌜ (spare ≤ header) × (header ≤ endSlot) ⌝ }
-    ensures { λ r. ⌜ r ≡ liveOf found spare address (record { header = header; size = 0; mark = mark }) ⌝ }
+    ensures { λ r. ⌜ r ≡ startOf start spare address (record { header = header; size = 0; mark = mark }) ⌝ }
 {
     if header + 8 != address {
-        return found;
+        return start;
     }
     if mark == 0 {
-        return found;
+        return start;
     }
-    Search::Found(header - spare)
+    header - spare
 }
 
 // All headers up to the end slot are walked; an unsound one stops it. Found is where the block that
 // is live at the address starts when it is joined with a free one before it.
 fn find_live(memory: &[u8], address: usize) -> Search
     requires { ⌜ length (now memory) ≡ memorySize ⌝ }
-    ensures { λ r. ⌜ r ≡ liveIn Search.Nothing 0 address (walk (now (memory .entry))) ⌝ }
+    ensures { λ r. ⌜ r ≡ liveIn 0 0 address (walk (now (memory .entry))) ⌝ }
 {
-    let mut found = Search::Nothing;
+    let mut start = 0;
     let mut spare = 0;
     let mut at = HEAP;
     while at < END {
@@ -59,11 +59,11 @@ fn find_live(memory: &[u8], address: usize) -> Search
             return Search::Unsound;
         }
         let mark = mark_at(memory, at);
-        found = live_of(found, spare, address, at, mark);
+        start = start_of(start, spare, address, at, mark);
         spare = spare_of(size, mark);
         at = at + 8 + size;
     }
-    found
+    Search::Found(start)
 }
 
 // What the block behind adds; the end slot is none.
@@ -100,16 +100,19 @@ pub fn free(memory: &mut [u8], table: &mut [u8], address: u32) -> Release
     ensures { λ _. ⌜ now (memory .exit) ≡ released (now (memory .entry)) (now (table .entry)) address .memory ⌝ }
     ensures { λ _. ⌜ now (table .exit) ≡ released (now (memory .entry)) (now (table .entry)) address .table ⌝ }
 {
-    if !are_exact(memory, table) {
+    if memory.len() != MEMORY {
+        return Release::WrongLength;
+    }
+    if table.len() != TABLE {
         return Release::WrongLength;
     }
     let at = address as usize;
-    match find_live(memory, at) {
-        Search::Unsound => Release::Unsound,
-        Search::Nothing => Release::Bad,
-        Search::Found(start) => {
-            join(memory, table, start, at);
-            Release::Freed
-        }
+    let Search::Found(start) = find_live(memory, at) else {
+        return Release::Unsound;
+    };
+    if start == 0 {
+        return Release::Bad;
     }
+    join(memory, table, start, at);
+    Release::Freed
 }

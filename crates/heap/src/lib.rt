@@ -6,8 +6,10 @@ pub mod freeing;
 pub mod headers;
 pub mod making;
 
-// The length of memory.
+// The length of memory and of the table.
 const MEMORY: usize = 57344;
+
+const TABLE: usize = 7168;
 
 // The first header, and the end slot.
 const HEAP: usize = 28672;
@@ -37,11 +39,8 @@ pub enum Release {
     Freed,
 }
 
-// What a walk over all headers finds.
+// What a walk over all headers finds on its way: a header, 0 where there is none.
 enum Search {
-    // A header is unsound.
     Unsound,
-    Nothing,
-    // Where a block starts.
     Found(usize),
 }

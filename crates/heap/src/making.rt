@@ -5,44 +5,44 @@ ghost use lib.ListN.{length};
 ghost use Rattle.memory.specs.Memory.{memorySize, tableSize, paint};
 ghost use Rattle.heap.specs.Heap.{Made, endSlot, blockAt, walk, handOut, takeBlock, paintMade};
 ghost use Rattle.heap.specs.Lent.{allocated};
-ghost use Rattle.heap.specs.declared.Search.{Search};
 ghost use Rattle.heap.specs.Search.{firstOf, fitIn, Fitting};
 use crate::Allocation;
 use crate::END;
 use crate::HEAP;
+use crate::MEMORY;
 use crate::Search;
+use crate::TABLE;
 use crate::headers::is_sound;
 use crate::headers::mark_at;
 use crate::headers::put_header;
 use crate::headers::size_at;
 use memory::bytes::fill;
 use memory::colors::paint;
-use memory::lengths::are_exact;
 use opcodes::extent::extent_of;
 
 // The first fit so far: what was found before, else this block where it is free and holds the size.
-fn first_of(found: Search, want: usize, header: usize, size: usize, mark: u32) -> Search
+fn first_of(found: usize, want: usize, header: usize, size: usize, mark: u32) -> usize
     ensures { λ r. ⌜ r ≡ firstOf found want (record { header = header; size = size; mark = mark }) ⌝ }
 {
-    let Search::Nothing = found else {
+    if found != 0 {
         return found;
-    };
+    }
     if mark != 0 {
-        return Search::Nothing;
+        return 0;
     }
     if size < want {
-        return Search::Nothing;
+        return 0;
     }
-    Search::Found(header)
+    header
 }
 
 // All headers up to the end slot are walked; an unsound one stops it. Found is the first free block
 // that holds the size.
 fn first_fit(memory: &[u8], want: usize) -> Search
     requires { ⌜ length (now memory) ≡ memorySize ⌝ }
-    ensures { λ r. ⌜ r ≡ fitIn Search.Nothing want (walk (now (memory .entry))) ⌝ }
+    ensures { λ r. ⌜ r ≡ fitIn 0 want (walk (now (memory .entry))) ⌝ }
 {
-    let mut found = Search::Nothing;
+    let mut found = 0;
     let mut at = HEAP;
     while at < END {
         let size = size_at(memory, at) as usize;
@@ -53,7 +53,7 @@ fn first_fit(memory: &[u8], want: usize) -> Search
         found = first_of(found, want, at, size, mark);
         at = at + 8 + size;
     }
-    found
+    Search::Found(found)
 }
 
 // A header and a body of this size: the body's part of memory is set to zero, and its slots' part of
@@ -113,7 +113,10 @@ pub fn alloc(memory: &mut [u8], table: &mut [u8], size: u32, site: u16, color: u
     ensures { λ _. ⌜ now (memory .exit) ≡ allocated (now (memory .entry)) (now (table .entry)) size site color .memory ⌝ }
     ensures { λ _. ⌜ now (table .exit) ≡ allocated (now (memory .entry)) (now (table .entry)) size site color .table ⌝ }
 {
-    if !are_exact(memory, table) {
+    if memory.len() != MEMORY {
+        return Allocation::WrongLength;
+    }
+    if table.len() != TABLE {
         return Allocation::WrongLength;
     }
     if size == 0 {
@@ -123,12 +126,13 @@ pub fn alloc(memory: &mut [u8], table: &mut [u8], size: u32, site: u16, color: u
         return Allocation::Nothing;
     }
     let want = extent_of(size);
-    match first_fit(memory, want) {
-        Search::Unsound => Allocation::Unsound,
-        Search::Nothing => Allocation::Nothing,
-        Search::Found(header) => {
-            let mark = site as u32 + 1;
-            Allocation::Made(take_block(memory, table, header, want, mark, color))
-        }
+    let Search::Found(header) = first_fit(memory, want) else {
+        return Allocation::Unsound;
+    };
+    if header == 0 {
+        return Allocation::Nothing;
     }
+    let mark = site as u32 + 1;
+    let body = take_block(memory, table, header, want, mark, color);
+    Allocation::Made(body)
 }

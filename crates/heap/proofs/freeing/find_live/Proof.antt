@@ -6,18 +6,17 @@ use mathlib.Core.Path.{sym, _∙_}
 use native.Mathlib.Omega.{arith}
 use borrow.Author.Tests.{not-true, not-false}
 use Rattle.heap.specs.Heap.{endSlot, heapStart, walk}
-use Rattle.heap.specs.declared.Search.{Search}
-use Rattle.heap.specs.Search.{liveIn, liveAmong}
+use Rattle.heap.specs.Search.{liveIn, startIn}
 use Rattle.heap.proofs.Walks.{Way, Sound, blockOf, way-starts, way-done, way-stops, way-goes, says, live-step, spare-below}
 use Rattle.heap.proofs.freeing.find_live.Statement.{statement}
 use Rattle.heap.proofs.freeing.find_live.Tie as tie
 
 abbrev Inv-loop : tie.InvT-loop
-Inv-loop memory address found₀ spare₀ at₀ found spare at = Way memory at (liveIn found spare address)
-    (liveIn Search.Nothing 0 address (walk memory)) × (spare + heapStart ≤ at)
+Inv-loop memory address start₀ spare₀ at₀ start spare at = Way memory at (liveIn start spare address)
+    (liveIn 0 0 address (walk memory)) × (spare + heapStart ≤ at)
 
 abbrev μ-loop : tie.MeasureT-loop
-μ-loop memory address found₀ spare₀ at₀ found spare at = endSlot - at
+μ-loop memory address start₀ spare₀ at₀ start spare at = endSlot - at
 
 loop-holds : tie.Need-loop-holds Inv-loop μ-loop
 loop-holds c = (way-starts _ _, omega arith)
@@ -39,8 +38,8 @@ returns c = way-stops (c .before .before .before .before .loop .inv .0) (c .befo
 mark-at-requires : tie.Need-mark-at-requires Inv-loop μ-loop
 mark-at-requires c κs = omega arith
 
-live-of-requires : tie.Need-live-of-requires Inv-loop μ-loop
-live-of-requires c κs = (omega (arith, c .before .before .before .before .before .loop .inv .1), c .before .before .before .before .before .loop .inv .0 .high)
+start-of-requires : tie.Need-start-of-requires Inv-loop μ-loop
+start-of-requires c κs = (omega (arith, c .before .before .before .before .before .loop .inv .1), c .before .before .before .before .before .loop .inv .0 .high)
 
 spare-of-requires : tie.Need-spare-of-requires Inv-loop μ-loop
 spare-of-requires c κs = omega arith
@@ -67,12 +66,12 @@ loop-again c = let w = c .before .before .before .before .before .before .before
     let s = sym (c .before .before .before .before .is-sound .ensures) ∙ not-false _ (c .before .before .before .if1 .left) in
     let spared = spare-below (w .at) (size .result) (mark .result) (c .spare-of .result) (c .spare-of .ensures) in (
       way-goes (w .inv .0) (size .result) below (size .ensures) (mark .result) (mark .ensures) s _
-          (live-step _ _ _ (blockOf (w .at) (size .result) (mark .result)) _ _ (c .before .live-of .ensures) (c .spare-of .ensures)),
+          (live-step _ _ _ (blockOf (w .at) (size .result) (mark .result)) _ _ (c .before .start-of .ensures) (c .spare-of .ensures)),
       omega (arith, spared, w .inv .0 .low),
     )
 
 returns-2 : tie.Need-returns-2 Inv-loop μ-loop
-unfolding liveAmong
+unfolding startIn
 returns-2 c = way-done (c .before .loop .inv .0) (c .loop-test .left)
 
 pub find-live-spec : {M : Type 1} → statement M
@@ -87,7 +86,7 @@ find-live-spec =
     is-sound-requires
     returns
     mark-at-requires
-    live-of-requires
+    start-of-requires
     spare-of-requires
     add-at
     add-at-2

@@ -5,14 +5,13 @@ use mathlib.Core.Path.{sym, _∙_}
 use native.Mathlib.Omega.{arith}
 use borrow.Author.Tests.{not-true, not-false}
 use Rattle.heap.specs.Heap.{endSlot, walk}
-use Rattle.heap.specs.declared.Search.{Search}
-use Rattle.heap.specs.Search.{firstAmong, fitIn}
+use Rattle.heap.specs.Search.{foundIn, fitIn}
 use Rattle.heap.proofs.Walks.{Way, Sound, blockOf, way-starts, way-done, way-stops, way-goes, says, fit-step}
 use Rattle.heap.proofs.making.first_fit.Statement.{statement}
 use Rattle.heap.proofs.making.first_fit.Tie as tie
 
 abbrev Inv-loop : tie.InvT-loop
-Inv-loop memory want found₀ at₀ found at = Way memory at (fitIn found want) (fitIn Search.Nothing want (walk memory))
+Inv-loop memory want found₀ at₀ found at = Way memory at (fitIn found want) (fitIn 0 want (walk memory))
 
 abbrev μ-loop : tie.MeasureT-loop
 μ-loop memory want found₀ at₀ found at = endSlot - at
@@ -63,7 +62,7 @@ loop-again c = way-goes (c .before .before .before .before .before .before .loop
     (c .before .before .before .before .size-at .result) (c .before .mark-at .result)) _ (c .first-of .ensures))
 
 returns-2 : tie.Need-returns-2 Inv-loop μ-loop
-unfolding firstAmong
+unfolding foundIn
 returns-2 c = way-done (c .before .loop .inv) (c .loop-test .left)
 
 pub first-fit-spec : {M : Type 1} → statement M
