@@ -13,7 +13,7 @@ use Rattle.opcodes.specs.declared.Group.{Group}
 use Rattle.opcodes.specs.declared.Operand.{Operand}
 use Rattle.opcodes.specs.declared.Parts.{Parts}
 use Rattle.opcodes.specs.declared.Instr.{Instr}
-use Rattle.opcodes.specs.Table.{rowOf, operandsOf, numbersOf, partsOf, named, operandsIn, Each}
+use Rattle.opcodes.specs.Table.{rows, rowOf, operandsOf, numbersOf, partsOf, named, operandsIn, Each}
 use Rattle.opcodes.specs.Ranges.{Scope, hasGroup, hasOpcode, within, isColor, isKind}
 use Rattle.files.specs.Program.{Program, kindsOf}
 use Rattle.files.specs.Writing.{both, every, goodObject, goodOperand, goodOperands, goodParts, goodInstr, scopeOf}
@@ -89,7 +89,7 @@ good-each scope (o ∷ os) e = both-true (goodOperand scope (o .0) (o .1)) (good
 
 -- an opcode of version 1 is one of version 2
 opcode-kept : (op : ℕ) → hasOpcode 1 op ≡ true → hasOpcode 2 op ≡ true
-opcode-kept op e = go (ltb op 22) (rowOf op .group) e
+opcode-kept op e = go (ltb op (length rows)) (rowOf op .group) e
   where
     go : (b : Bool) (g : Group) → elim b as (λ _. Bool) [ true ↦ hasGroup 1 g | false ↦ false ] ≡ true → elim b as (λ _. Bool) [ true ↦ hasGroup 2 g | false ↦ false ] ≡ true
     go true Group.Plain e = refl
