@@ -92,7 +92,7 @@ fn long_run(random: &mut Random, case: &mut Case, least: u32) {
     let steps = case.probe(LONG_PROBE).steps;
     case.limit = match random.below(6) {
         0 => steps,
-        1 => steps - 1,
+        1 => steps.saturating_sub(1),
         2 => random.between(steps / 2, steps),
         3 => BEARABLE,
         _ => steps + 1,
