@@ -12,7 +12,7 @@ flags="--edition 2021 -C opt-level=3 -C codegen-units=1 -C overflow-checks=on"
 
 echo "building the library" >&2
 $rustc $flags --crate-type lib --crate-name independent -o "$out/libindependent.rlib" src/lib.rs
-for program in trials bench; do
+for program in trials bench sheet; do
     echo "building $program" >&2
     $rustc $flags --crate-name "$program" --extern "independent=$out/libindependent.rlib" \
         -o "$out/$program" "src/bin/$program.rs"

@@ -17,7 +17,8 @@
 //! - [`wire`], [`partner`]: cases and answers as bytes on a pipe, and what this
 //!   implementation answers; the program at the other end;
 //! - [`states`], [`coverage`], [`shrink`]: what a case reaches, and what the
-//!   trials have reached; a case that differs, made small.
+//!   trials have reached; a case that differs, made small;
+//! - [`sheet`]: docs/FORMAT.md as data, held to a program row by row.
 
 pub mod coloring;
 pub mod coverage;
@@ -34,6 +35,7 @@ pub mod partner;
 pub mod plain;
 pub mod record;
 pub mod refusal;
+pub mod sheet;
 pub mod shrink;
 pub mod states;
 pub mod wire;

@@ -5,11 +5,12 @@ use mathlib.Core.List.{List}
 use mathlib.Core.Bool.{true, false}
 use mathlib.Core.Logic.{_⊎_, inl, inr}
 use Prim.Native.Nat.{ℕ, suc, _+_, _-_, _*_, _%_, _^_, _<_, _≤_}
-use native.Mathlib.Nat.{mul-le-mul-right, lt-of-lt-of-le}
+use native.Mathlib.Nat.{mul-le-mul-right, lt-of-lt-of-le, mod-eq-of-lt}
 use native.Mathlib.Decide.{decLt, ℕ-discrete}
 use native.Mathlib.Omega.{arith}
 use lib.ListN.{length, getD}
 use lib.Pow.{pow-add, pow-mono}
+use lib.Bits.{bitAnd, and-mask}
 use borrow.Author.Tests.{lt-ltb, le-ltb, le-leb, lt-leb, eq-eqb, ne-eqb}
 use Rattle.numbers.specs.Number.{readGroups, readNumber, endsEarly, badNumber, largest, shortest}
 use Rattle.numbers.specs.declared.Read.the-variants.{Number}
@@ -32,17 +33,67 @@ grows i {value} {group} v g =
     let g′ : group ≤ 127 = omega arith in
     omega (arith, next-power i, mul-le-mul-right (2 ^ (7 * i)) g′)
 
--- five groups, the last of them at most 15, are a number of 32 bits
-pub fits : (i : ℕ) {value group : ℕ} → i < 5 → value < 2 ^ (7 * i) → group < 128 → group ≤ largest i
+-- five groups, a fifth of them at most 15, are a number of 32 bits
+pub fits : (i : ℕ) {value group : ℕ} → i < 5 → value < 2 ^ (7 * i) → group < 128 → (i ≡ 4 → group ≤ 15)
     → joined value group i < 2 ^ 32
-fits i {value} {group} l v g b =
+fits i {value} {group} l v g fifth =
     elim (decLt i 4) [
       | yes h ↦ lt-of-lt-of-le (grows i v g) (pow-mono {j = 32} (omega arith))
       | no h ↦
           let e : i ≡ 4 = omega arith in
-          let b′ : group ≤ 15 = rw (e, largest) at b in
+          let b : group ≤ 15 = fifth e in
           let v′ : value < 2 ^ (7 * 4) = rw e at v in
           rw e (omega arith)
+    ]
+
+-- mask and shift join a byte's group to the value, and no bit is lost
+pub shifted : (i : ℕ) {value : ℕ} (byte : ℕ) → i < 5 → value < 2 ^ (7 * i) → (i ≡ 4 → byte % 128 ≤ 15)
+    → value + bitAnd byte 127 * 2 ^ (7 * i) % 2 ^ 32 ≡ joined value (byte % 128) i
+shifted i {value} byte l v fifth =
+    let small = fits i l v (omega arith) fifth in
+    rw (and-mask byte 7) (ap (λ (x : ℕ). value + x) (mod-eq-of-lt (omega arith)))
+
+-- ---- the two tests, as facts
+
+-- what holds of 255 before the fifth group, and of 15 there, holds of the largest byte
+by-largest : (P : ℕ → Type 0) (i : ℕ) → (i < 4 → P 255) → (4 ≤ i → P 15) → P (largest i)
+by-largest P i below fifth =
+    elim (decLt i 4) [
+      | yes h ↦ rw (lt-ltb i 4 h, largest) (below h)
+      | no h ↦ let t : 4 ≤ i = omega arith in rw (le-ltb i 4 t, largest) (fifth t)
+    ]
+
+pub may-stand : (i : ℕ) {byte : ℕ} → i < 5 → byte ≤ 255 → (i ≡ 4 → byte ≤ 15) → byte ≤ largest i
+may-stand i {byte} l b h = by-largest (λ most. byte ≤ most) i (λ _. b) (λ t. h (omega arith))
+
+pub fifth : (i : ℕ) {byte : ℕ} → byte ≤ largest i → i ≡ 4 → byte ≤ 15
+fifth i {byte} b e = rw (e, largest) at b
+
+pub largest-most : (i : ℕ) → largest i ≤ 255
+largest-most i = by-largest (λ most. most ≤ 255) i (λ h. omega arith) (λ h. omega arith)
+
+-- a last group of 0 is the only one
+pub short : (i byte : ℕ) → (byte ≡ 0 → i ≡ 0) → shortest i byte ≡ true
+short i byte h =
+    elim (ℕ-discrete byte 0) [
+      | yes e ↦ simp (eq-eqb byte 0 e, eq-eqb i 0 (h e), shortest)
+      | no e ↦ simp (ne-eqb byte 0 e, shortest)
+    ]
+
+pub not-short : (i byte : ℕ) → byte ≡ 0 → 0 < i → shortest i byte ≡ false
+not-short i byte e t =
+    let other : i ≡ 0 → ⊥ = λ z. omega arith in
+    simp (eq-eqb byte 0 e, ne-eqb i 0 other, shortest)
+
+pub short-or-long : (i byte : ℕ) → (byte ≡ 0 → i ≡ 0) ⊎ (shortest i byte ≡ false)
+short-or-long i byte =
+    elim (ℕ-discrete byte 0) [
+      | no e ↦ inl (λ z. absurd (e z))
+      | yes e ↦
+          elim (ℕ-discrete i 0) [
+            | yes z ↦ inl (λ _. z)
+            | no z ↦ inr (not-short i byte e (omega arith))
+          ]
     ]
 
 -- ---- a reading
@@ -103,34 +154,19 @@ module _ {file : List ℕ} {first at value i : ℕ} (r : Reading file first at v
               simp (turn-left i limit, ← r .place, lt-ltb _ _ inside, le-leb _ _ allowed, lt-ltb _ _ final, t, readGroups)
               at (r .answer)
 
--- ---- the two tests, as facts
-
--- what holds of 255 before the fifth group, and of 15 there, holds of the largest byte
-pub by-largest : (P : ℕ → Type 0) (i : ℕ) → (i < 4 → P 255) → (4 ≤ i → P 15) → P (largest i)
-by-largest P i below fifth =
-    elim (decLt i 4) [
-      | yes h ↦ rw (lt-ltb i 4 h, largest) (below h)
-      | no h ↦ let t : 4 ≤ i = omega arith in rw (le-ltb i 4 t, largest) (fifth t)
-    ]
-
-pub largest-most : (i : ℕ) → largest i ≤ 255
-largest-most i = by-largest (λ most. most ≤ 255) i (λ h. omega arith) (λ h. omega arith)
-
--- a last group of 0 is the only one
-pub short : (i byte : ℕ) → (byte ≡ 0 → i ≡ 0) → shortest i byte ≡ true
-short i byte h =
-    elim (ℕ-discrete byte 0) [
-      | yes e ↦ simp (eq-eqb byte 0 e, eq-eqb i 0 (h e), shortest)
-      | no e ↦ simp (ne-eqb byte 0 e, shortest)
-    ]
-
-pub short-or-long : (i byte : ℕ) → (byte ≡ 0 → i ≡ 0) ⊎ (shortest i byte ≡ false)
-short-or-long i byte =
-    elim (ℕ-discrete byte 0) [
-      | no e ↦ inl (λ z. absurd (e z))
-      | yes e ↦
-          elim (ℕ-discrete i 0) [
-            | yes z ↦ inl (λ _. z)
-            | no z ↦ inr (simp (eq-eqb byte 0 e, ne-eqb i 0 z, shortest))
+      -- a byte that another follows: one group more, and behind a fifth what is left to read is refused
+      pub followed : getD file at 0 ≤ 255 → 128 ≤ getD file at 0
+          → Reading file first (at + 1) (joined value (getD file at 0 % 128) i) (i + 1)
+      unfolding readGroups
+      followed b t =
+          elim (decLt i 4) [
+            | yes h ↦ more (may-stand i limit b (λ e. absurd (omega arith))) t
+            | no h ↦
+                let four : i ≡ 4 = omega arith in
+                let none : 5 - (i + 1) ≡ 0 = omega arith in
+                record {
+                  place = omega (arith, r .place);
+                  small = grows i (r .small) (omega arith);
+                  answer = rw none (over (rw (four, largest) (omega arith)));
+                }
           ]
-    ]

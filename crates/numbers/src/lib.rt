@@ -3,8 +3,8 @@
 // A read answers the value with the next cursor, or a refusal with its number and place; what is
 // written is the one shortest spelling. Nothing here asks anything of its caller.
 ghost use mathlib.Core.Path.{_≡_};
-ghost use Prim.Native.Nat.{_+_, _*_, _/_, _%_, _^_, _<_};
-ghost use Rattle.numbers.specs.Number.{endsEarly, badNumber, largest, shortest};
+ghost use Prim.Native.Nat.{_+_, _/_, _%_, _<_};
+ghost use Rattle.numbers.specs.declared.Read.the-variants.{Refused};
 ghost use Rattle.numbers.specs.Number.{readNumber, width, writtenAt, roomAfter};
 
 // Where the next number of a file starts.
@@ -23,6 +23,47 @@ pub enum Read {
     // The value, and the cursor behind it.
     Number(u32, Cursor),
     Refused(Refusal),
+}
+
+// A refusal in place of a number.
+fn refused(number: u8, place: usize) -> Read
+    ensures { λ r. ⌜ r ≡ Refused (record { number = number; place = place }) ⌝ }
+{
+    Read::Refused(Refusal { number, place })
+}
+
+// The number at a cursor, which may be any: past the end the file ends early. docs/FORMAT.md has the rules of a
+// number in the order of these lines.
+pub fn read_number(file: &[u8], from: Cursor) -> Read
+    ensures { λ r. ⌜ r ≡ readNumber (now (file .entry)) (from .at) ⌝ }
+{
+    let first = from.at;
+    let mut at = first;
+    let mut value = 0u32;
+    // At most five groups, the low group first.
+    for group in 0..5u32 {
+        if file.len() <= at {
+            return refused(2, file.len());
+        }
+        let byte = file[at] as u32;
+        at += 1;
+        let bits = byte & 127;
+        // Four groups are 28 bits: of 32, a fifth has four.
+        if group == 4 && 15 < bits {
+            return refused(3, first);
+        }
+        value += bits << (7 * group);
+        // The top bit says that another follows; without it this group is the last.
+        if byte < 128 {
+            // Only the shortest form is good: no group of 0 behind others.
+            if bits == 0 && 0 < group {
+                return refused(3, first);
+            }
+            return Read::Number(value, Cursor { at });
+        }
+    }
+    // The fifth byte says that another follows.
+    refused(3, first)
 }
 
 // What writing one number answers.
@@ -47,82 +88,12 @@ fn above_group(bits: u32) -> u32
     bits >> 7
 }
 
-// The value with one group more, on top of the `i` groups that it has.
-fn joined(value: u32, group: u32, i: u32) -> u32
-    requires { ⌜ (i < 5) × (value + group * 2 ^ (7 * i) < 2 ^ 32) ⌝ }
-    ensures { λ r. ⌜ r ≡ value + group * 2 ^ (7 * i) ⌝ }
-{
-    value + (group << (7 * i))
-}
-
 // The byte of a group that another one follows.
 fn followed(group: u32) -> u8
     requires { ⌜ group < 128 ⌝ }
     ensures { λ r. ⌜ r ≡ group + 128 ⌝ }
 {
     (group | 128) as u8
-}
-
-// The largest byte that may stand as group `i`: a fifth has four bits left.
-fn largest_byte(i: u32) -> u32
-    ensures { λ r. ⌜ r ≡ largest i ⌝ }
-{
-    if i < 4 { 255 } else { 15 }
-}
-
-// Whether a last group keeps the spelling short: 0 stands only for the number 0.
-fn is_shortest(i: u32, byte: u32) -> bool
-    ensures { λ r. ⌜ r ≡ shortest i byte ⌝ }
-{
-    byte != 0 || i == 0
-}
-
-// Refusal 2, at the file's length.
-fn ends_early(file: &[u8]) -> Read
-    ensures { λ r. ⌜ r ≡ endsEarly (now (file .entry)) ⌝ }
-{
-    Read::Refused(Refusal {
-        number: 2,
-        place: file.len(),
-    })
-}
-
-// Refusal 3, at the number's first byte.
-fn bad_number(first: usize) -> Read
-    ensures { λ r. ⌜ r ≡ badNumber first ⌝ }
-{
-    Read::Refused(Refusal {
-        number: 3,
-        place: first,
-    })
-}
-
-// The number at a cursor, which may be any: past the end the file ends early.
-pub fn read_number(file: &[u8], from: Cursor) -> Read
-    ensures { λ r. ⌜ r ≡ readNumber (now (file .entry)) (from .at) ⌝ }
-{
-    let first = from.at;
-    let mut at = first;
-    let mut value = 0u32;
-    for i in 0..5u32 {
-        if file.len() <= at {
-            return ends_early(file);
-        }
-        let byte = file[at] as u32;
-        if largest_byte(i) < byte {
-            return bad_number(first);
-        }
-        at += 1;
-        if byte < 128 {
-            if !is_shortest(i, byte) {
-                return bad_number(first);
-            }
-            return Read::Number(joined(value, byte, i), Cursor { at });
-        }
-        value = joined(value, low_group(byte), i);
-    }
-    // Not reached: a fifth byte that another follows is above 15.
-    bad_number(first)
 }
 
 // How many bytes a number takes.
