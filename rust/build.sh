@@ -22,7 +22,7 @@ if [ "${1:-}" = test ]; then
     for file in tests/*.rs; do
         name=$(basename "$file" .rs)
         echo "building and running $file" >&2
-        CARGO_BIN_EXE_trials="$PWD/$out/trials" $rustc $flags -C debug-assertions=on --test \
+        CARGO_MANIFEST_DIR="$PWD" CARGO_BIN_EXE_trials="$PWD/$out/trials" $rustc $flags -C debug-assertions=on --test \
             --crate-name "$name" --extern "independent=$out/libindependent.rlib" \
             -o "$out/test-$name" "$file"
         "$out/test-$name" --quiet
