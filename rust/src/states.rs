@@ -10,7 +10,7 @@ use crate::instruction::Instruction;
 use crate::layout::{HEAP, MEMORY};
 use crate::machine::Machine;
 use crate::record::{Record, Stop};
-use crate::refusal::LENT;
+use crate::refusal::{ENDS_EARLY, LENT};
 use crate::wire::{Answer, Case, Kind};
 use std::collections::{BTreeSet, VecDeque};
 use std::ops::RangeInclusive;
@@ -40,12 +40,16 @@ pub enum State {
     PlaceInRoom,
     LargeRoom,
     ElevenFirst,
+    NumberOfLength,
+    NumberCutOff,
+    NumberTooLong,
+    NumberTooLarge,
 }
 
 use State::*;
 
 impl State {
-    pub const ALL: [State; 21] = [
+    pub const ALL: [State; 25] = [
         Steps16,
         Steps20,
         LimitOfSize,
@@ -67,6 +71,10 @@ impl State {
         PlaceInRoom,
         LargeRoom,
         ElevenFirst,
+        NumberOfLength,
+        NumberCutOff,
+        NumberTooLong,
+        NumberTooLarge,
     ];
 
     pub fn name(self) -> &'static str {
@@ -92,6 +100,10 @@ impl State {
             PlaceInRoom => "written from 256, 8,192, 32,768 on",
             LargeRoom => "a room above 32,768, with a file",
             ElevenFirst => "11 and 1, 2, .. 9 in the file",
+            NumberOfLength => "a number of 1, 2, .. 5 bytes",
+            NumberCutOff => "2 behind 0, 1, .. 4 bytes of a number",
+            NumberTooLong => "a last group of 0 as byte 2, 3, 4, 5",
+            NumberTooLarge => "fifth byte: group above 15, top bit, both",
         }
     }
 
@@ -102,6 +114,7 @@ impl State {
             // Only code by somebody else can forge headers.
             FreeByRow => &[Kind::Run],
             PlaceInRoom => &[Kind::WriteNumber],
+            NumberOfLength | NumberCutOff | NumberTooLong | NumberTooLarge => &[Kind::ReadNumber],
             LargeRoom => &[Kind::WriteInstrumented, Kind::Instrument],
             _ => &[Kind::Run, Kind::Control],
         }
@@ -116,6 +129,10 @@ impl State {
             HalfOutside => 1..=3,
             PlaceInRoom => 0..=2,
             ElevenFirst => 1..=9,
+            NumberOfLength => 1..=5,
+            NumberCutOff => 0..=4,
+            NumberTooLong => 2..=5,
+            NumberTooLarge => 0..=2,
             _ => 0..=0,
         };
         // No version 2 file has too many classes.
@@ -192,6 +209,7 @@ impl Seen {
     fn note_answer(&mut self, case: &Case, answer: &Answer) {
         let [reason, _, steps, out, taken, ..] = answer.0;
         match case.kind {
+            Kind::ReadNumber => self.note_number(case, answer),
             Kind::WriteNumber if reason == 0 => {
                 for (part, least) in [256, 8_192, 32_768].into_iter().enumerate() {
                     self.note(case.cursor >= least, PlaceInRoom, part as u32);
@@ -211,6 +229,27 @@ impl Seen {
                 }
             }
             _ => {}
+        }
+    }
+
+    /// How long a number was, or which of its bytes decided.
+    fn note_number(&mut self, case: &Case, answer: &Answer) {
+        let bytes = case.file.get(case.cursor as usize..).unwrap_or(&[]);
+        match answer.reason() {
+            0 => self.note(true, NumberOfLength, answer.0[3] - case.cursor),
+            ENDS_EARLY => self.note(true, NumberCutOff, bytes.len() as u32),
+            _ => {
+                let last = bytes.iter().take(5).position(|&byte| byte < 128);
+                let zero = last.filter(|&at| bytes[at] == 0);
+                self.note(zero.is_some(), NumberTooLong, zero.map_or(0, |at| at as u32 + 1));
+                let fifth = bytes.get(4).copied().filter(|_| last.unwrap_or(4) == 4).unwrap_or(0);
+                match (fifth & 127 > 15, fifth >= 128) {
+                    (true, false) => self.note(true, NumberTooLarge, 0),
+                    (false, true) => self.note(true, NumberTooLarge, 1),
+                    (true, true) => self.note(true, NumberTooLarge, 2),
+                    (false, false) => {}
+                }
+            }
         }
     }
 

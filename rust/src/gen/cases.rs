@@ -165,6 +165,10 @@ fn read_number(random: &mut Random, case: &mut Case) {
             _ => case.file.push(random.byte()),
         }
     }
+    // Cut off, perhaps inside a number.
+    if random.chance(25) {
+        case.file.pop();
+    }
     case.cursor = match random.chance(90) {
         true => random.below(case.file.len() as u32 + 1),
         // Any cursor, also one past the end.

@@ -196,6 +196,24 @@ fn far_programs(random: &mut Random) -> Vec<Case> {
     cases
 }
 
+/// Numbers of every length, cut off before every byte, too long and too large in
+/// every way.
+fn numbers_read() -> Vec<Case> {
+    let mut files = Vec::new();
+    for length in 1..=5 {
+        let followed = vec![0x81; length - 1];
+        files.extend([
+            followed.clone(),
+            [&followed[..], &[1]].concat(),
+            [&followed[..], &[0]].concat(),
+        ]);
+    }
+    for fifth in [15, 16, 127, 128, 143, 144, 255] {
+        files.push(vec![0xFF, 0xFF, 0xFF, 0xFF, fifth, 1]);
+    }
+    files.into_iter().map(|file| Case { file, ..Case::new(Kind::ReadNumber) }).collect()
+}
+
 /// Numbers at far places of large rooms.
 fn far_numbers() -> Vec<Case> {
     let places =
@@ -233,6 +251,7 @@ pub fn far_cases() -> Vec<Case> {
     cases.extend(long_runs(&mut random));
     cases.extend(far_routines(&mut random));
     cases.extend(far_programs(&mut random));
+    cases.extend(numbers_read());
     cases.extend(far_numbers());
     cases.extend(eleven_first());
     cases
