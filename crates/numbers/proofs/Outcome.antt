@@ -17,7 +17,7 @@ use Rattle.numbers.specs.declared.Refusal.{Refusal}
 use Rattle.numbers.specs.declared.Read.the-variants.{Number, Refused}
 use Rattle.numbers.proofs.Spelling.{groups-last, groups-more, groups-join}
 use Rattle.numbers.proofs.Reading.{Reading, end, early, over, more, long, last}
-use Rattle.numbers.proofs.Reading.{joined, next-power, fits, fifth, may-stand, largest-most, short, short-or-long}
+use Rattle.numbers.proofs.Reading.{joined, next-power, fits, fifth-most, may-stand, largest-most, short, short-or-long}
 
 -- from `at` on stand the groups of `rest`, which with the value of the i groups before make n; c is behind them
 pub record Found (left : ℕ) (file : List ℕ) (at value i n : ℕ) (c : Cursor) : Type 0 where
@@ -56,7 +56,7 @@ module _ {file : List ℕ} {at value i : ℕ} (inside : at < length file) where
         shortly = only;
         stands = here file at inside ∙ rw (groups-last left _ final);
         ends = rw (groups-last left _ final);
-        small = fits i limit v final (fifth i allowed);
+        small = fits i limit v final (fifth-most i allowed);
       }
 
   -- one group more in front of what is found

@@ -63,11 +63,13 @@ by-largest P i below fifth =
       | no h ↦ let t : 4 ≤ i = omega arith in rw (le-ltb i 4 t, largest) (fifth t)
     ]
 
+-- a byte may stand as group i, if only a fifth is at most 15
 pub may-stand : (i : ℕ) {byte : ℕ} → i < 5 → byte ≤ 255 → (i ≡ 4 → byte ≤ 15) → byte ≤ largest i
 may-stand i {byte} l b h = by-largest (λ most. byte ≤ most) i (λ _. b) (λ t. h (omega arith))
 
-pub fifth : (i : ℕ) {byte : ℕ} → byte ≤ largest i → i ≡ 4 → byte ≤ 15
-fifth i {byte} b e = rw (e, largest) at b
+-- and one that may stand as the fifth is
+pub fifth-most : (i : ℕ) {byte : ℕ} → byte ≤ largest i → i ≡ 4 → byte ≤ 15
+fifth-most i {byte} b e = rw (e, largest) at b
 
 pub largest-most : (i : ℕ) → largest i ≤ 255
 largest-most i = by-largest (λ most. most ≤ 255) i (λ h. omega arith) (λ h. omega arith)
@@ -80,6 +82,7 @@ short i byte h =
       | no e ↦ simp (ne-eqb byte 0 e, shortest)
     ]
 
+-- a last group of 0 behind others is not short
 pub not-short : (i byte : ℕ) → byte ≡ 0 → 0 < i → shortest i byte ≡ false
 not-short i byte e t =
     let other : i ≡ 0 → ⊥ = λ z. omega arith in

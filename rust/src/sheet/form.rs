@@ -10,7 +10,8 @@ const FIELDS: [&str; 5] = ["for each", "number", "from", "to", "else"];
 const OPCODES: [&str; 5] = ["opcode", "name", "operands", "versions", "what it does"];
 const OPERANDS: [&str; 5] = ["operand", "is", "from", "to", "versions"];
 const VERSIONS: [&str; 3] = ["version", "is", "bytes at most"];
-const REFUSALS: [&str; 5] = ["number", "reason", "place", "a file that gets it", "answer"];
+pub(super) const REFUSALS: [&str; 5] =
+    ["number", "reason", "place", "a file that gets it", "answer"];
 
 /// An end of a range: a number, or a count of the file, perhaps less 1.
 #[derive(Clone, Debug)]
@@ -111,7 +112,7 @@ impl Form {
             let fields = table.rows.iter().map(of_kind).collect::<Result<_, _>>()?;
             let version = table.rows[0].number(2)?;
             let longest = longest.get(&version).copied();
-            let longest = longest.ok_or_else(|| table.rows[0].wrong("a version of no length"))?;
+            let longest = longest.ok_or_else(|| table.rows[0].about("a version of no length"))?;
             form.versions.insert(version, Version { fields, kinds, longest });
         }
         if form.versions.len() != longest.len() {
@@ -367,7 +368,7 @@ fn kinds(rows: &[Row]) -> Result<HashMap<String, u32>, String> {
     parts
         .map(|(kind, name)| Ok((name.to_string(), page::number(kind)?)))
         .collect::<Result<_, String>>()
-        .map_err(|words| row.wrong(&words))
+        .map_err(|words| row.about(&words))
 }
 
 fn field(row: &Row, only: Option<u32>) -> Result<Field, String> {
@@ -390,7 +391,7 @@ fn range(row: &Row) -> Result<Range, String> {
         Some(from) => (true, from),
         None => (false, &row.cells[2][..]),
     };
-    let bound = |text: &str| bound(text).map_err(|words| row.wrong(&words));
+    let bound = |text: &str| bound(text).map_err(|words| row.about(&words));
     Ok(Range { or_zero, from: bound(from)?, to: bound(&row.cells[3])? })
 }
 
@@ -420,5 +421,5 @@ fn opcode(row: &Row) -> Result<Opcode, String> {
 
 fn versions(row: &Row, column: usize) -> Result<Vec<u32>, String> {
     let parts = row.cells[column].split(", ");
-    parts.map(page::number).collect::<Result<_, _>>().map_err(|words| row.wrong(&words))
+    parts.map(page::number).collect::<Result<_, _>>().map_err(|words| row.about(&words))
 }

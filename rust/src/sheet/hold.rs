@@ -1,7 +1,7 @@
 //! The page held to a program, each row as a case.
 
 use crate::partner::Partner;
-use crate::sheet::form::{Form, Judged};
+use crate::sheet::form::{Form, Judged, REFUSALS};
 use crate::sheet::page::{number, Page, Row};
 use crate::sheet::text::{file_of, listing, numbers_of, spell};
 use crate::wire::{digest, digest_bytes, from_hex, Answer, Case, Kind};
@@ -14,7 +14,6 @@ const RULES: [&str; 2] = ["rule", "line"];
 const AT_WORK: [&str; 5] = ["instruction", "instructions", "with", "answer", "numbers out"];
 const BY_BYTE: [&str; 5] = ["place", "bytes", "number", "of", "is"];
 const BOTH: [&str; 4] = ["in the routine", "instruction", "in the code", "instruction"];
-const REFUSALS: [&str; 5] = ["number", "reason", "place", "a file that gets it", "answer"];
 const FIRST: [&str; 2] = ["more than one reason", "answer"];
 const LENT: [&str; 2] = ["lent to a run", "bytes"];
 const STOPS: [&str; 5] = ["number", "reason", "instructions", "with", "answer"];
@@ -108,13 +107,13 @@ impl Holding {
             let mut case = Case::new(Kind::ReadNumber);
             case.file = bytes.clone();
             let answer = self.ask(&case)?;
-            self.same(&row.wrong("read"), [0, 0, value, length, 0, 0, 0, 0], answer.0);
+            self.same(&row.about("read"), [0, 0, value, length, 0, 0, 0, 0], answer.0);
             let mut case = Case::new(Kind::WriteNumber);
             case.limit = value;
             case.room = length;
             let answer = self.ask(&case)?;
             let room = digest_bytes(&bytes);
-            self.same(&row.wrong("written"), [0, 0, length, length, 0, room, 0, 0], answer.0);
+            self.same(&row.about("written"), [0, 0, length, length, 0, room, 0, 0], answer.0);
         }
         Ok(())
     }
@@ -129,7 +128,7 @@ impl Holding {
                 case.cursor = front.len() as u32;
                 let answer = self.ask(&case)?;
                 let page = [refusal, place + case.cursor, 0, 0, 0, 0, 0, 0];
-                self.same(&row.wrong("refused"), page, answer.0);
+                self.same(&row.about("refused"), page, answer.0);
             }
         }
         Ok(())
@@ -138,9 +137,7 @@ impl Holding {
     /// The lines of the number reader that decide or compute are those of the page.
     fn reader_lines(&mut self) -> Result<(), String> {
         let source = text_of(&self.root.join("crates/numbers/src/lib.rt"))?;
-        let body = source.split_once("pub fn read_number").map(|(_, behind)| behind);
-        let body = body.and_then(|body| body.split_once("\n}\n")).map(|(body, _)| body);
-        let body = body.ok_or("crates/numbers has no read_number")?;
+        let body = between(&source, "pub fn read_number", "\n}\n")?;
         let told = ["for ", "if ", "return ", "refused(", "let bits", "value "];
         let is_told = |line: &&str| told.iter().any(|start| line.starts_with(start));
         let lines: Vec<String> =
@@ -198,7 +195,7 @@ impl Holding {
                 .quoted(1)?
                 .split("; ")
                 .any(|part| part.split(' ').next() == Some(&row.cells[0]));
-            self.same(&row.wrong("its instruction is among them"), true, uses);
+            self.same(&row.about("its instruction is among them"), true, uses);
             let case = self.run_of(&row, 1, 2)?;
             self.run(&row, &case, row.numbers(3)?, Some(row.numbers(4)?))?;
         }
@@ -209,7 +206,7 @@ impl Holding {
         for row in self.rows(&STOPS)? {
             let case = self.run_of(&row, 2, 3)?;
             let answer = row.numbers(4)?;
-            self.same(&row.wrong("the number of its answer"), row.number(0)?, answer[0]);
+            self.same(&row.about("the number of its answer"), row.number(0)?, answer[0]);
             self.run(&row, &case, answer, None)?;
         }
         Ok(())
@@ -221,7 +218,7 @@ impl Holding {
         let version = if words == "version 2" { 2 } else { 1 };
         let mut case = self.run_case(if version == 2 { Kind::Run } else { Kind::Control });
         let file = file_of(&self.form, version, row.quoted(instructions)?);
-        case.file = file.map_err(|words| row.wrong(&words))?;
+        case.file = file.map_err(|words| row.about(&words))?;
         if let Some(limit) = words.strip_prefix("limit ") {
             case.limit = number(limit)?;
         } else if let Some(room) = words.strip_prefix("room ") {
@@ -229,7 +226,7 @@ impl Holding {
         } else if let Some(inputs) = words.strip_prefix("input ") {
             case.inputs = inputs.split(' ').map(number).collect::<Result<_, _>>()?;
         } else if version == 1 && !words.is_empty() {
-            return Err(row.wrong(&format!("{:?} is nothing to run with", words)));
+            return Err(row.about(&format!("{:?} is nothing to run with", words)));
         }
         Ok(case)
     }
@@ -242,10 +239,10 @@ impl Holding {
         out: Option<Vec<u32>>,
     ) -> Result<(), String> {
         let answer = self.ask(case)?;
-        self.same(&row.wrong("run"), page, answer.0[..5].to_vec());
+        self.same(&row.about("run"), page, answer.0[..5].to_vec());
         if let Some(mut out) = out {
             out.resize(case.room as usize, u32::from_le_bytes([FILL; 4]));
-            self.same(&row.wrong("numbers out"), digest(out), answer.0[7]);
+            self.same(&row.about("numbers out"), digest(out), answer.0[7]);
         }
         Ok(())
     }
@@ -261,12 +258,12 @@ impl Holding {
             bytes.extend(row.bytes(1)?);
             let page = (row.number(0)? as usize, row.bytes(1)?.len(), row.number(2)?);
             self.same(
-                &row.wrong("place, length, number"),
+                &row.about("place, length, number"),
                 page,
                 (number.place, number.length, number.value),
             );
             let page = (&row.cells[3][..], &row.cells[4][..]);
-            self.same(&row.wrong("what it is"), page, (&number.of[..], &number.is[..]));
+            self.same(&row.about("what it is"), page, (&number.of[..], &number.is[..]));
         }
         self.same("the bytes of a.routine", bytes, routine.clone());
         let code = self.page.quoted_after("What the instrumenter makes of it: ")?;
@@ -288,9 +285,9 @@ impl Holding {
             if row.cells[column].is_empty() {
                 continue;
             }
-            self.same(&row.wrong("counted"), row.number(column)? as usize, page.len());
+            self.same(&row.about("counted"), row.number(column)? as usize, page.len());
             numbers_of(&self.form, version, row.quoted(column + 1)?)
-                .map_err(|words| row.wrong(&words))?;
+                .map_err(|words| row.about(&words))?;
             page.push(row.quoted(column + 1)?.to_string());
         }
         self.same("the instructions side by side", page, listing(judged));
@@ -302,18 +299,18 @@ impl Holding {
             let case = self.refused_file(&row, 3)?;
             let answer = self.ask(&case)?;
             let page = row.numbers(4)?;
-            self.same(&row.wrong("refused"), page.clone(), answer.0[..2].to_vec());
-            self.same(&row.wrong("the number of its answer"), row.number(0)?, page[0]);
-            self.same(&row.wrong("nothing else is told"), vec![0; 3], answer.0[2..5].to_vec());
+            self.same(&row.about("refused"), page.clone(), answer.0[..2].to_vec());
+            self.same(&row.about("the number of its answer"), row.number(0)?, page[0]);
+            self.same(&row.about("nothing else is told"), vec![0; 3], answer.0[2..5].to_vec());
             let judged = self.form.judge(1, &case.file)?;
             let first = judged.refusal.map(|refusal| refusal.place).unwrap_or(0);
             let place = match &row.cells[2][..] {
                 "0" => 0,
                 "its length" => case.file.len() as u32,
                 "its first byte" | "the first of them" => first,
-                other => return Err(row.wrong(&format!("{:?} is no place", other))),
+                other => return Err(row.about(&format!("{:?} is no place", other))),
             };
-            self.same(&row.wrong("place"), place, page[1]);
+            self.same(&row.about("place"), place, page[1]);
         }
         Ok(())
     }
@@ -364,7 +361,7 @@ impl Holding {
         for row in self.rows(&FIRST)? {
             let case = self.refused_file(&row, 0)?;
             let answer = self.ask(&case)?;
-            self.same(&row.wrong("refused"), row.numbers(1)?, answer.0[..2].to_vec());
+            self.same(&row.about("refused"), row.numbers(1)?, answer.0[..2].to_vec());
         }
         Ok(())
     }
@@ -379,7 +376,7 @@ impl Holding {
             Some((file, lent.trim_matches(|c| c == ',' || c == ' '), number(length)))
         });
         let (file, what, length) = lent.unwrap_or((words, "", Ok(0)));
-        let length = length.map_err(|words| row.wrong(&words))?;
+        let length = length.map_err(|words| row.about(&words))?;
         match what {
             "room" => {
                 case.kind = Kind::Instrument;
@@ -394,7 +391,7 @@ impl Holding {
         } else if file.starts_with("examples/") {
             bytes_of(&self.root.join(file))?
         } else {
-            from_hex(file.trim_matches('`')).map_err(|words| row.wrong(&words))?
+            from_hex(file.trim_matches('`')).map_err(|words| row.about(&words))?
         };
         Ok(case)
     }

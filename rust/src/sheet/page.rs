@@ -101,26 +101,26 @@ fn cells(line: &str) -> Option<Vec<String>> {
 }
 
 impl Row {
-    /// A mistake in this row.
-    pub fn wrong(&self, words: &str) -> String {
+    /// Words about this row, with its line.
+    pub fn about(&self, words: &str) -> String {
         format!("line {}: {}", self.line, words)
     }
 
     /// A cell that is a number.
     pub fn number(&self, column: usize) -> Result<u32, String> {
-        number(&self.cells[column]).map_err(|words| self.wrong(&words))
+        number(&self.cells[column]).map_err(|words| self.about(&words))
     }
 
     /// A cell of numbers with blanks between them; none where it is empty.
     pub fn numbers(&self, column: usize) -> Result<Vec<u32>, String> {
         let parts = self.cells[column].split_whitespace();
-        parts.map(number).collect::<Result<_, _>>().map_err(|words| self.wrong(&words))
+        parts.map(number).collect::<Result<_, _>>().map_err(|words| self.about(&words))
     }
 
     /// A cell in backquotes, without them.
     pub fn quoted(&self, column: usize) -> Result<&str, String> {
         let cell = self.cells[column].strip_prefix('`').and_then(|cell| cell.strip_suffix('`'));
-        cell.ok_or_else(|| self.wrong(&format!("{:?} is not in backquotes", self.cells[column])))
+        cell.ok_or_else(|| self.about(&format!("{:?} is not in backquotes", self.cells[column])))
     }
 
     /// A cell of bytes in backquotes; the word `none` is no bytes.
@@ -128,7 +128,7 @@ impl Row {
         if self.cells[column] == "none" {
             return Ok(Vec::new());
         }
-        from_hex(self.quoted(column)?).map_err(|words| self.wrong(&words))
+        from_hex(self.quoted(column)?).map_err(|words| self.about(&words))
     }
 }
 

@@ -1,7 +1,7 @@
 -- `numbers::read_number` meets its contract. The invariant is a `Reading`: what is left to read answers what the
 -- whole reading does. Each way out of a turn, and the turn to the next group, is one of its steps; the measure
 -- is the groups that may still come.
-use mathlib.Core.Path.{_≡_, sym, ap, _∙_}
+use mathlib.Core.Path.{_≡_, ap, _∙_}
 use mathlib.Core.Logic.{inl, inr}
 use Prim.Native.Nat.{ℕ, _+_, _-_, _*_, _%_, _^_, _<_, _≤_}
 use native.Mathlib.Omega.{arith}
@@ -42,8 +42,8 @@ module _ (c : tie.After-shared-slice-known2 Inv-loop μ-loop) where
   bits = and-mask byte 7
 
 -- behind the test of a fifth group
-fifth : (c : tie.Joined2 Inv-loop μ-loop) → group (c .before) ≡ 4 → byte (c .before) % 128 ≤ 15
-fifth c e =
+four-bits : (c : tie.Joined2 Inv-loop μ-loop) → group (c .before) ≡ 4 → byte (c .before) % 128 ≤ 15
+four-bits c e =
     elim (c .if2 .came) [
       | inl (t, w) ↦ omega (arith, ltb-false, bits (c .before))
       | inr w ↦ absurd (w .left e)
@@ -53,13 +53,13 @@ fifth c e =
 joins : (c : tie.Joined2 Inv-loop μ-loop) → let v : ℕ = c .before .before .before .before .loop .value in
     v + bitAnd (byte (c .before)) 127 * 2 ^ (7 * group (c .before)) % 2 ^ 32
     ≡ joined v (byte (c .before) % 128) (group (c .before))
-joins c = shifted _ _ (limit (c .before)) (c .before .before .before .before .loop .inv .1 .small) (fifth c)
+joins c = shifted _ _ (limit (c .before)) (c .before .before .before .before .loop .inv .1 .small) (four-bits c)
 
 -- a last byte may stand as the group at hand
 last-most : (c : tie.Then4 Inv-loop μ-loop) → byte (c .before .before) ≤ largest (group (c .before .before))
 last-most c =
     may-stand _ (limit (c .before .before)) (byte-most (c .before .before))
-    (λ e. omega (arith, c .if4 .taken, fifth (c .before) e))
+    (λ e. omega (arith, c .if4 .taken, four-bits (c .before) e))
 
 -- behind the test of the shortest form
 alone : (c : tie.Joined5 Inv-loop μ-loop) → let b = c .before .before .before in byte b ≡ 0 → group b ≡ 0
@@ -112,7 +112,7 @@ shl-value c = omega arith
 add-value : tie.Need-add-value Inv-loop μ-loop
 add-value c =
     let b = c .before in
-    let small = fits (group b) (limit b) (b .before .before .before .loop .inv .1 .small) (omega arith) (fifth c) in
+    let small = fits (group b) (limit b) (b .before .before .before .loop .inv .1 .small) (omega arith) (four-bits c) in
     omega (arith, joins c, small)
 
 refused-requires-3 : tie.Need-refused-requires-3 Inv-loop μ-loop
