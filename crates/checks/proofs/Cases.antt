@@ -10,9 +10,9 @@ use Rattle.opcodes.specs.declared.Instr.{Instr}
 use Rattle.opcodes.specs.View.{view}
 use Rattle.opcodes.specs.contracts.Instr.{the_type}
 use borrow.Author.Tests.{eq-eqb, ne_eqb}
-use Rattle.checks.specs.Held.{checkFor, setStart, firstIn, checkNature, checkIn}
+use Rattle.checks.specs.Held.{check_for, set_start, first_in, check_nature, check_in}
 use Rattle.safety.specs.declared.Nature.{Nature}
-use Rattle.safety.specs.Nature.{natureOf, sizesIn}
+use Rattle.safety.specs.Nature.{nature_of, sizes_in}
 use Rattle.safety.specs.contracts.Nature
 use Rattle.instructions.proofs.Tables.{agree_on}
 use Rattle.instructions.specs.Moved.{moved}
@@ -24,39 +24,39 @@ unstored = 0 ∷ 1 ∷ 2 ∷ 3 ∷ 4 ∷ 5 ∷ 6 ∷ 7 ∷ 12 ∷ 13 ∷ 14 ∷ 
 abbrev pub copied : List ℕ
 copied = 0 ∷ 1 ∷ 2 ∷ 3 ∷ 4 ∷ 5 ∷ 6 ∷ 7 ∷ 8 ∷ 9 ∷ 14 ∷ 15 ∷ 16 ∷ 17 ∷ 18 ∷ 19 ∷ 20 ∷ 21 ∷ []
 
-pub no_store : (color : ℕ) (i : Instr) → OneOf unstored (tag_of the_type i) → checkFor (view i) color ≡ Instr.End
-no_store color = agree_on unstored (λ i. checkFor (view i) color) (λ i. Instr.End) (λ ns. refl)
+pub no_store : (color : ℕ) (i : Instr) → OneOf unstored (tag_of the_type i) → check_for (view i) color ≡ Instr.End
+no_store color = agree_on unstored (λ i. check_for (view i) color) (λ i. Instr.End) (λ ns. refl)
 
-pub copied-whole : (target : ℕ → ℕ) (i : Instr) → OneOf copied (tag_of the_type i) → i ≡ moved target i
-copied-whole target = agree_on copied (λ i. i) (moved target) (λ ns. refl)
+pub copied_whole : (target : ℕ → ℕ) (i : Instr) → OneOf copied (tag_of the_type i) → i ≡ moved target i
+copied_whole target = agree_on copied (λ i. i) (moved target) (λ ns. refl)
 
 -- ---- where a set starts
 
-pub start_first : (ends : List ℕ) (s : ℕ) → s ≡ 0 → setStart ends s ≡ 0
-start_first ends s h = simp (eq-eqb s 0 h, setStart)
+pub start_first : (ends : List ℕ) (s : ℕ) → s ≡ 0 → set_start ends s ≡ 0
+start_first ends s h = simp (eq-eqb s 0 h, set_start)
 
-pub start-later : (ends : List ℕ) (s : ℕ) → (s ≡ 0 → ⊥) → setStart ends s ≡ get_or ends (s - 1) 0
-start-later ends s h = simp (ne_eqb s 0 h, setStart)
+pub start_later : (ends : List ℕ) (s : ℕ) → (s ≡ 0 → ⊥) → set_start ends s ≡ get_or ends (s - 1) 0
+start_later ends s h = simp (ne_eqb s 0 h, set_start)
 
 -- ---- the check of an instruction, by its nature
 
-module _ (sizes colors ends members : List ℕ) (i : Instr) (n : Nature) (is : n ≡ natureOf (sizesIn sizes) (view i)) where
-  pub check-own : (g color : ℕ) (r : Instr) → n ≡ Nature.Own g → color ≡ get_or colors g 0 → r ≡ checkFor (view i) color
-      → r ∷ [] ≡ checkIn sizes colors ends members i
-  unfolding checkIn
-  check-own g color r own c e =
-      ap (λ (j : Instr). j ∷ []) (e ∙ ap (checkFor (view i)) c)
-      ∙ ap (checkNature colors ends members (view i)) (sym own ∙ is)
+module _ (sizes colors ends members : List ℕ) (i : Instr) (n : Nature) (is : n ≡ nature_of (sizes_in sizes) (view i)) where
+  pub check_own : (g color : ℕ) (r : Instr) → n ≡ Nature.Own g → color ≡ get_or colors g 0 → r ≡ check_for (view i) color
+      → r ∷ [] ≡ check_in sizes colors ends members i
+  unfolding check_in
+  check_own g color r own c e =
+      ap (λ (j : Instr). j ∷ []) (e ∙ ap (check_for (view i)) c)
+      ∙ ap (check_nature colors ends members (view i)) (sym own ∙ is)
 
-  pub check-listed : (s first color : ℕ) (r : Instr) → n ≡ Nature.Listed s → first ≡ firstIn ends members s → color ≡ get_or colors first 0
-      → r ≡ checkFor (view i) color → r ∷ [] ≡ checkIn sizes colors ends members i
-  unfolding checkIn
-  check-listed s first color r listed f c e =
-      ap (λ (j : Instr). j ∷ []) (e ∙ ap (checkFor (view i)) (c ∙ ap (λ (x : ℕ). get_or colors x 0) f))
-      ∙ ap (checkNature colors ends members (view i)) (sym listed ∙ is)
+  pub check_listed : (s first color : ℕ) (r : Instr) → n ≡ Nature.Listed s → first ≡ first_in ends members s → color ≡ get_or colors first 0
+      → r ≡ check_for (view i) color → r ∷ [] ≡ check_in sizes colors ends members i
+  unfolding check_in
+  check_listed s first color r listed f c e =
+      ap (λ (j : Instr). j ∷ []) (e ∙ ap (check_for (view i)) (c ∙ ap (λ (x : ℕ). get_or colors x 0) f))
+      ∙ ap (check_nature colors ends members (view i)) (sym listed ∙ is)
 
   -- the natures that have no check
-  none : (m : Nature) → OneOf (0 ∷ 3 ∷ 4 ∷ 5 ∷ []) (tag_of Rattle.safety.specs.contracts.Nature.the_type m) → [] ≡ checkNature colors ends members (view i) m
+  none : (m : Nature) → OneOf (0 ∷ 3 ∷ 4 ∷ 5 ∷ []) (tag_of Rattle.safety.specs.contracts.Nature.the_type m) → [] ≡ check_nature colors ends members (view i) m
   none Nature.Safe h = refl
   none (Nature.Own g) h = absurd (miss (0 ∷ 3 ∷ 4 ∷ 5 ∷ []) 1 tt h)
   none (Nature.Listed s) h = absurd (miss (0 ∷ 3 ∷ 4 ∷ 5 ∷ []) 2 tt h)
@@ -64,6 +64,6 @@ module _ (sizes colors ends members : List ℕ) (i : Instr) (n : Nature) (is : n
   none Nature.Check h = refl
   none Nature.Other h = refl
 
-  pub check-none : OneOf (0 ∷ 3 ∷ 4 ∷ 5 ∷ []) (tag_of Rattle.safety.specs.contracts.Nature.the_type n) → [] ≡ checkIn sizes colors ends members i
-  unfolding checkIn
-  check-none h = none n h ∙ ap (checkNature colors ends members (view i)) is
+  pub check_none : OneOf (0 ∷ 3 ∷ 4 ∷ 5 ∷ []) (tag_of Rattle.safety.specs.contracts.Nature.the_type n) → [] ≡ check_in sizes colors ends members i
+  unfolding check_in
+  check_none h = none n h ∙ ap (check_nature colors ends members (view i)) is

@@ -3,7 +3,7 @@
 // Every function answers for all that it can be given: an element past the end of an array counts as 0.
 ghost use Rattle.std.specs.Prelude.{◌≡◌, get_or};
 ghost use Rattle.opcodes.specs.View.{view};
-ghost use Rattle.checks.specs.Held.{setStart, firstIn, checkFor, asList, checkIn};
+ghost use Rattle.checks.specs.Held.{set_start, first_in, check_for, as_list, check_in};
 ghost use Rattle.instructions.specs.Moved.{moved};
 
 use opcodes::Instr;
@@ -18,7 +18,7 @@ pub enum Before {
 
 // Where set `s` starts among the members: behind the set before it.
 fn start_of(s: usize, ends: &[u16]) -> usize
-    ensures { result ≡ setStart ends.now s }
+    ensures { result ≡ set_start ends.now s }
 {
     if s == 0 {
         return 0;
@@ -32,7 +32,7 @@ fn start_of(s: usize, ends: &[u16]) -> usize
 
 // The lowest object of set `s`, or 0 past the members.
 fn first_of<'a>(s: usize, ends: &'a [u16], members: &'a [u16]) -> usize
-    ensures { result ≡ firstIn ends.now members.now s }
+    ensures { result ≡ first_in ends.now members.now s }
 {
     let at = start_of(s, ends);
     if at < members.len() {
@@ -53,7 +53,7 @@ fn color_of(x: usize, colors: &[u8]) -> u8
 
 // The check of a store for a color: the same aim, and the same width.
 fn check_of(i: Instr, color: u8) -> Instr
-    ensures { result ≡ checkFor (view i) color }
+    ensures { result ≡ check_for (view i) color }
 {
     match i {
         Instr::Put8(g, k, _) => Instr::CheckPut8(g, k, color),
@@ -96,7 +96,7 @@ pub fn check_before<'a>(
     ends: &'a [u16],
     members: &'a [u16],
 ) -> Before
-    ensures { asList result ≡ checkIn sizes.now colors.now ends.now members.now i }
+    ensures { as_list result ≡ check_in sizes.now colors.now ends.now members.now i }
 {
     let nature = nature_of(i, sizes);
     match nature {

@@ -8,31 +8,31 @@ use Rattle.files.specs.declared.Object.{Object}
 use Rattle.safety.specs.Unsafe.{size_of}
 use Rattle.coloring.specs.Colored.{tinted}
 
-pub tinted-length : (color : ℕ → ℕ) (from : ℕ) (os : List Object) → length (tinted color from os) ≡ length os
+pub tinted_length : (color : ℕ → ℕ) (from : ℕ) (os : List Object) → length (tinted color from os) ≡ length os
 unfolding tinted
-tinted-length color from [] = refl
-tinted-length color from (o ∷ os) = ap suc (tinted-length color (from + 1) os)
+tinted_length color from [] = refl
+tinted_length color from (o ∷ os) = ap suc (tinted_length color (from + 1) os)
 
-pub tinted-size : (color : ℕ → ℕ) (from : ℕ) (os : List Object) (g : ℕ) → size_of (tinted color from os) g ≡ size_of os g
+pub tinted_size : (color : ℕ → ℕ) (from : ℕ) (os : List Object) (g : ℕ) → size_of (tinted color from os) g ≡ size_of os g
 unfolding tinted
-tinted-size color from [] g = refl
-tinted-size color from (o ∷ os) zero = refl
-tinted-size color from (o ∷ os) (suc g) = tinted-size color (from + 1) os g
+tinted_size color from [] g = refl
+tinted_size color from (o ∷ os) zero = refl
+tinted_size color from (o ∷ os) (suc g) = tinted_size color (from + 1) os g
 
-pub tinted-kinds : (color : ℕ → ℕ) (from : ℕ) (os : List Object) → map (λ o. o.kind) (tinted color from os) ≡ map (λ o. o.kind) os
+pub tinted_kinds : (color : ℕ → ℕ) (from : ℕ) (os : List Object) → map (λ o. o.kind) (tinted color from os) ≡ map (λ o. o.kind) os
 unfolding tinted
-tinted-kinds color from [] = refl
-tinted-kinds color from (o ∷ os) = ap (λ (l : List ℕ). o.kind ∷ l) (tinted-kinds color (from + 1) os)
+tinted_kinds color from [] = refl
+tinted_kinds color from (o ∷ os) = ap (λ (l : List ℕ). o.kind ∷ l) (tinted_kinds color (from + 1) os)
 
-pub tinted-sizes : (color : ℕ → ℕ) (from : ℕ) (os : List Object) → map (λ o. o.size) (tinted color from os) ≡ map (λ o. o.size) os
+pub tinted_sizes : (color : ℕ → ℕ) (from : ℕ) (os : List Object) → map (λ o. o.size) (tinted color from os) ≡ map (λ o. o.size) os
 unfolding tinted
-tinted-sizes color from [] = refl
-tinted-sizes color from (o ∷ os) = ap (λ (l : List ℕ). o.size ∷ l) (tinted-sizes color (from + 1) os)
+tinted_sizes color from [] = refl
+tinted_sizes color from (o ∷ os) = ap (λ (l : List ℕ). o.size ∷ l) (tinted_sizes color (from + 1) os)
 
-pub tinted-color : (color : ℕ → ℕ) (from : ℕ) (os : List Object) (i : ℕ) → i < length os → get_or (map (λ o. o.color) (tinted color from os)) i 0 ≡ color (from + i)
+pub tinted_color : (color : ℕ → ℕ) (from : ℕ) (os : List Object) (i : ℕ) → i < length os → get_or (map (λ o. o.color) (tinted color from os)) i 0 ≡ color (from + i)
 unfolding tinted
-tinted-color color from [] i h = absurd (omega arith)
-tinted-color color from (o ∷ os) zero h = let z : from ≡ from + 0 = omega arith in ap color z
-tinted-color color from (o ∷ os) (suc i) h =
+tinted_color color from [] i h = absurd (omega arith)
+tinted_color color from (o ∷ os) zero h = let z : from ≡ from + 0 = omega arith in ap color z
+tinted_color color from (o ∷ os) (suc i) h =
     let z : from + 1 + i ≡ from + suc i = omega arith in
-    tinted-color color (from + 1) os i (omega arith) ∙ ap color z
+    tinted_color color (from + 1) os i (omega arith) ∙ ap color z

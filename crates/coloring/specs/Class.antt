@@ -12,12 +12,12 @@ unfoldable pub some : (List ℕ → Bool) → List (List ℕ) → Bool
 some test [] = false
 some test (s ∷ ss) = elim (test s) [ true ↦ true | false ↦ some test ss ]
 
-abbrev pub holdsBoth : (x y : ℕ) → List ℕ → Bool
-holdsBoth x y s = elim (holds s x) [ true ↦ holds s y | false ↦ false ]
+abbrev pub holds_both : (x y : ℕ) → List ℕ → Bool
+holds_both x y s = elim (holds s x) [ true ↦ holds s y | false ↦ false ]
 
 -- "An object is unsafe if some unsafe instruction's set holds it"
-abbrev pub unsafeObject : (sets : List (List ℕ)) (x : ℕ) → Bool
-unsafeObject sets x = some (λ s. holds s x) sets
+abbrev pub unsafe_object : (sets : List (List ℕ)) (x : ℕ) → Bool
+unsafe_object sets x = some (λ s. holds s x) sets
 
 -- ---- the class as a relation
 
@@ -44,10 +44,10 @@ unfoldable pub join : List ℕ → (classes : List (List ℕ)) → List (List �
 join s [] = s ∷ []
 join s (c ∷ cs) = elim (meets s c) [ true ↦ join (s ++ c) cs | false ↦ c ∷ join s cs ]
 
-unfoldable pub classesOf : (sets : List (List ℕ)) → List (List ℕ)
-classesOf [] = []
-classesOf (s ∷ ss) = join s (classesOf ss)
+unfoldable pub classes_of : (sets : List (List ℕ)) → List (List ℕ)
+classes_of [] = []
+classes_of (s ∷ ss) = join s (classes_of ss)
 
 -- whether a chain joins x and y
-abbrev pub sameClass : (sets : List (List ℕ)) (x y : ℕ) → Bool
-sameClass sets x y = some (holdsBoth x y) (classesOf sets)
+abbrev pub same_class : (sets : List (List ℕ)) (x y : ℕ) → Bool
+same_class sets x y = some (holds_both x y) (classes_of sets)

@@ -10,7 +10,7 @@ use Rattle.opcodes.specs.View.{view}
 use Rattle.files.specs.Reading.{Reading, refusal}
 use Rattle.files.specs.Held.{line, held}
 use Rattle.safety.specs.declared.Nature.{Nature}
-use Rattle.safety.specs.Nature.{natureOf, sizesIn}
+use Rattle.safety.specs.Nature.{nature_of, sizes_in}
 
 -- ---- joining classes
 
@@ -39,50 +39,50 @@ united labels a b =
     ]
 
 -- the n members from `at` on are of the class of `first`
-unfoldable pub spanJoined : (n : ℕ) → (members : List ℕ) (first at : ℕ) → List ℕ → List ℕ
-spanJoined zero members first at labels = labels
-spanJoined (suc n) members first at labels =
-    spanJoined n members first (at + 1) (united (touched labels (get_or members at 0)) first (get_or members at 0))
+unfoldable pub span_joined : (n : ℕ) → (members : List ℕ) (first at : ℕ) → List ℕ → List ℕ
+span_joined zero members first at labels = labels
+span_joined (suc n) members first at labels =
+    span_joined n members first (at + 1) (united (touched labels (get_or members at 0)) first (get_or members at 0))
 
-abbrev pub setJoined : (isUsed : Bool) → (members : List ℕ) (from to : ℕ) → List ℕ → List ℕ
-setJoined true members from to labels = spanJoined (to - from) members (get_or members from 0) from labels
-setJoined false members from to labels = labels
+abbrev pub set_joined : (isUsed : Bool) → (members : List ℕ) (from to : ℕ) → List ℕ → List ℕ
+set_joined true members from to labels = span_joined (to - from) members (get_or members from 0) from labels
+set_joined false members from to labels = labels
 
 -- the n sets from number `s` on, of which the first starts at `from`: those that are used
-unfoldable pub setsJoined : (n : ℕ) → (used : List Bool) (ends members : List ℕ) (s from : ℕ) → List ℕ → List ℕ
-setsJoined zero used ends members s from labels = labels
-setsJoined (suc n) used ends members s from labels =
-    setsJoined n used ends members (s + 1) (get_or ends s 0) (setJoined (get_or used s false) members from (get_or ends s 0) labels)
+unfoldable pub sets_joined : (n : ℕ) → (used : List Bool) (ends members : List ℕ) (s from : ℕ) → List ℕ → List ℕ
+sets_joined zero used ends members s from labels = labels
+sets_joined (suc n) used ends members s from labels =
+    sets_joined n used ends members (s + 1) (get_or ends s 0) (set_joined (get_or used s false) members from (get_or ends s 0) labels)
 
 -- ---- what the instructions say
 
-abbrev pub ownMarked : Nature → List ℕ → List ℕ
-ownMarked Nature.Safe labels = labels
-ownMarked (Nature.Own g) labels = elim (ltb g 400) [ true ↦ touched labels g | false ↦ labels ]
-ownMarked (Nature.Listed s) labels = labels
-ownMarked (Nature.Jump p) labels = labels
-ownMarked Nature.Check labels = labels
-ownMarked Nature.Other labels = labels
+abbrev pub own_marked : Nature → List ℕ → List ℕ
+own_marked Nature.Safe labels = labels
+own_marked (Nature.Own g) labels = elim (ltb g 400) [ true ↦ touched labels g | false ↦ labels ]
+own_marked (Nature.Listed s) labels = labels
+own_marked (Nature.Jump p) labels = labels
+own_marked Nature.Check labels = labels
+own_marked Nature.Other labels = labels
 
-abbrev pub useMarked : Nature → List Bool → List Bool
-useMarked Nature.Safe used = used
-useMarked (Nature.Own g) used = used
-useMarked (Nature.Listed s) used = elim (ltb s 400) [ true ↦ set used s true | false ↦ used ]
-useMarked (Nature.Jump p) used = used
-useMarked Nature.Check used = used
-useMarked Nature.Other used = used
+abbrev pub use_marked : Nature → List Bool → List Bool
+use_marked Nature.Safe used = used
+use_marked (Nature.Own g) used = used
+use_marked (Nature.Listed s) used = elim (ltb s 400) [ true ↦ set used s true | false ↦ used ]
+use_marked (Nature.Jump p) used = used
+use_marked Nature.Check used = used
+use_marked Nature.Other used = used
 
-abbrev pub natureAt : (sizes : List ℕ) → List Line → (at : ℕ) → Nature
-natureAt sizes code at = natureOf (sizesIn sizes) (view (get_or code at (line Instr.End)).instr)
+abbrev pub nature_at : (sizes : List ℕ) → List Line → (at : ℕ) → Nature
+nature_at sizes code at = nature_of (sizes_in sizes) (view (get_or code at (line Instr.End)).instr)
 
 -- the n instructions from `at` on
-unfoldable pub ownsMarked : (n : ℕ) → (sizes : List ℕ) (code : List Line) (at : ℕ) → List ℕ → List ℕ
-ownsMarked zero sizes code at labels = labels
-ownsMarked (suc n) sizes code at labels = ownsMarked n sizes code (at + 1) (ownMarked (natureAt sizes code at) labels)
+unfoldable pub owns_marked : (n : ℕ) → (sizes : List ℕ) (code : List Line) (at : ℕ) → List ℕ → List ℕ
+owns_marked zero sizes code at labels = labels
+owns_marked (suc n) sizes code at labels = owns_marked n sizes code (at + 1) (own_marked (nature_at sizes code at) labels)
 
-unfoldable pub usesMarked : (n : ℕ) → (sizes : List ℕ) (code : List Line) (at : ℕ) → List Bool → List Bool
-usesMarked zero sizes code at used = used
-usesMarked (suc n) sizes code at used = usesMarked n sizes code (at + 1) (useMarked (natureAt sizes code at) used)
+unfoldable pub uses_marked : (n : ℕ) → (sizes : List ℕ) (code : List Line) (at : ℕ) → List Bool → List Bool
+uses_marked zero sizes code at used = used
+uses_marked (suc n) sizes code at used = uses_marked n sizes code (at + 1) (use_marked (nature_at sizes code at) used)
 
 -- ---- numbering the classes
 
@@ -98,20 +98,20 @@ leaders labels zero = 0
 leaders labels (suc n) = leaders labels n + leads labels n
 
 -- the color of x where `next` is the next class's, from the colors below x
-abbrev pub tintBy : (label : ℕ) (colors : List ℕ) (next x : ℕ) → ℕ
-tintBy label colors next x =
+abbrev pub tint_by : (label : ℕ) (colors : List ℕ) (next x : ℕ) → ℕ
+tint_by label colors next x =
     elim (eqb label x) [
       | true ↦ next
       | false ↦ elim (ltb label 400) [ true ↦ get_or colors label 0 | false ↦ 0 ]
     ]
 
 abbrev pub tint : (labels colors : List ℕ) (next x : ℕ) → ℕ
-tint labels colors next x = tintBy (get_or labels x 0) colors next x
+tint labels colors next x = tint_by (get_or labels x 0) colors next x
 
-unfoldable pub numberedFrom : (n : ℕ) → (labels : List ℕ) (x next : ℕ) → (colors : List ℕ) → List ℕ
-numberedFrom zero labels x next colors = colors
-numberedFrom (suc n) labels x next colors =
-    numberedFrom n labels (x + 1) (next + leads labels x) (set colors x (tint labels colors next x))
+unfoldable pub numbered_from : (n : ℕ) → (labels : List ℕ) (x next : ℕ) → (colors : List ℕ) → List ℕ
+numbered_from zero labels x next colors = colors
+numbered_from (suc n) labels x next colors =
+    numbered_from n labels (x + 1) (next + leads labels x) (set colors x (tint labels colors next x))
 
 -- ---- the whole
 
@@ -123,20 +123,20 @@ pub record InRange (l : Loaded) : Type 0 where
   pub ends : (s : ℕ) → get_or l.ends s 0 ≤ 16384
   pub members : (i : ℕ) → get_or l.members i 0 < 400
 
-abbrev pub marksIn : Loaded → List ℕ
-marksIn l = ownsMarked l.lines l.sizes l.code 0 (replicate 400 400)
+abbrev pub marks_in : Loaded → List ℕ
+marks_in l = owns_marked l.lines l.sizes l.code 0 (replicate 400 400)
 
-abbrev pub usedIn : Loaded → List Bool
-usedIn l = usesMarked l.lines l.sizes l.code 0 (replicate 400 false)
+abbrev pub used_in : Loaded → List Bool
+used_in l = uses_marked l.lines l.sizes l.code 0 (replicate 400 false)
 
-abbrev pub labelsIn : Loaded → List ℕ
-labelsIn l = setsJoined l.sets (usedIn l) l.ends l.members 0 0 (marksIn l)
+abbrev pub labels_in : Loaded → List ℕ
+labels_in l = sets_joined l.sets (used_in l) l.ends l.members 0 0 (marks_in l)
 
-abbrev pub colorsIn : Loaded → List ℕ
-colorsIn l = numberedFrom l.objects (labelsIn l) 0 2 (replicate 400 0)
+abbrev pub colors_in : Loaded → List ℕ
+colors_in l = numbered_from l.objects (labels_in l) 0 2 (replicate 400 0)
 
-abbrev pub heldWith : List ℕ → Loaded → Loaded
-heldWith colors l =
+abbrev pub held_with : List ℕ → Loaded → Loaded
+held_with colors l =
     record {
       outcome = l.outcome;
       objects = l.objects;
@@ -152,7 +152,7 @@ heldWith colors l =
 
 unfoldable pub painting : Loaded → Loaded
 painting l =
-    elim (ltb 254 (leaders (labelsIn l) l.objects)) [
+    elim (ltb 254 (leaders (labels_in l) l.objects)) [
       | true ↦ held (Reading.refused (refusal 8 0))
-      | false ↦ heldWith (colorsIn l) l
+      | false ↦ held_with (colors_in l) l
     ]

@@ -7,8 +7,8 @@
 ghost use Rattle.std.specs.Prelude.{◌≡◌, get_or};
 ghost use Prim.Native.Nat.{◌+◌, ◌-◌, ◌≤◌, ◌<◌};
 ghost use Rattle.opcodes.specs.View.{view};
-ghost use Rattle.safety.specs.Nature.{natureOf, sizesIn};
-ghost use Rattle.coloring.specs.Labels.{touched, renamed, relabelled, united, spanJoined, setsJoined, ownMarked, useMarked, ownsMarked, usesMarked};
+ghost use Rattle.safety.specs.Nature.{nature_of, sizes_in};
+ghost use Rattle.coloring.specs.Labels.{touched, renamed, relabelled, united, span_joined, sets_joined, own_marked, use_marked, owns_marked, uses_marked};
 
 use files::Line;
 use opcodes::Instr;
@@ -63,7 +63,7 @@ fn unite(labels: &mut [u16; 400], a: u16, b: u16)
 // The members from `from` up to `to` are of one class.
 fn unite_set(labels: &mut [u16; 400], members: &[u16; 16384], from: usize, to: usize)
     requires { (to ≤ 16384) × ((i : Prim.Native.Nat.ℕ) → get_or members.now i 0 < 400) }
-    ensures { labels.new ≡ spanJoined (to - from) members.now (get_or members.now from 0) from labels.old }
+    ensures { labels.new ≡ span_joined (to - from) members.now (get_or members.now from 0) from labels.old }
 {
     if to <= from {
         return;
@@ -87,7 +87,7 @@ pub(super) fn unite_sets(
     sets: usize,
 )
     requires { (sets ≤ 400) × ((s : Prim.Native.Nat.ℕ) → get_or ends.now s 0 ≤ 16384) × ((i : Prim.Native.Nat.ℕ) → get_or members.now i 0 < 400) }
-    ensures { labels.new ≡ setsJoined sets used.now ends.now members.now 0 0 labels.old }
+    ensures { labels.new ≡ sets_joined sets used.now ends.now members.now 0 0 labels.old }
 {
     let mut from = 0;
     let mut s = 0;
@@ -104,8 +104,8 @@ pub(super) fn unite_sets(
 // What one instruction says: its own object has a class, or its set is used. A routine that was read
 // names no object and no set from 400 on.
 fn mark(i: Instr, sizes: &[u16; 400], labels: &mut [u16; 400], used: &mut [bool; 400])
-    ensures labels_after { labels.new ≡ ownMarked (natureOf (sizesIn sizes.now) (view i)) labels.old }
-    ensures used_after { used.new ≡ useMarked (natureOf (sizesIn sizes.now) (view i)) used.old }
+    ensures labels_after { labels.new ≡ own_marked (nature_of (sizes_in sizes.now) (view i)) labels.old }
+    ensures used_after { used.new ≡ use_marked (nature_of (sizes_in sizes.now) (view i)) used.old }
 {
     let nature = nature_of(i, sizes);
     match nature {
@@ -132,8 +132,8 @@ pub(super) fn mark_all(
     used: &mut [bool; 400],
 )
     requires { lines ≤ 2000 }
-    ensures labels_after { labels.new ≡ ownsMarked lines sizes.now code 0 labels.old }
-    ensures used_after { used.new ≡ usesMarked lines sizes.now code 0 used.old }
+    ensures labels_after { labels.new ≡ owns_marked lines sizes.now code 0 labels.old }
+    ensures used_after { used.new ≡ uses_marked lines sizes.now code 0 used.old }
 {
     let mut at = 0;
     while at < lines {

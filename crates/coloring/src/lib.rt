@@ -3,7 +3,7 @@
 // A routine is read and its objects get 01's colors. The crate `safety` says what each instruction is;
 // `labels` finds the classes; `painting` numbers them.
 ghost use Rattle.std.specs.Prelude.{◌≡◌};
-ghost use Rattle.files.specs.Reading.{Reading, refusal, readFile};
+ghost use Rattle.files.specs.Reading.{Reading, refusal, read_file};
 ghost use Rattle.files.specs.Held.{held};
 ghost use Rattle.coloring.specs.Colored.{colored};
 ghost use Rattle.coloring.specs.Labels.{InRange, painting};
@@ -71,7 +71,7 @@ fn paint(routine: Loaded) -> Loaded
 // Reads bytes as a routine and gives its objects their colors. The answer has 0 as the color of a safe
 // object, and 2, 3, .. for the classes in the order of their lowest objects.
 pub fn read_colored(file: &[u8]) -> Loaded
-    ensures { result ≡ held (colored (readFile 1 file.now)) }
+    ensures { result ≡ held (colored (read_file 1 file.now)) }
 {
     let routine = files::read_routine(file);
     let outcome = routine.outcome;

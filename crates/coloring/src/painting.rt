@@ -1,6 +1,6 @@
 // The colors of a routine's objects, by the labels of their classes.
 ghost use Rattle.std.specs.Prelude.{◌≡◌, ◌≤◌, replicate};
-ghost use Rattle.coloring.specs.Labels.{lead, leaders, tintBy, numberedFrom};
+ghost use Rattle.coloring.specs.Labels.{lead, leaders, tint_by, numbered_from};
 
 // 1 where an object is the lowest of its class.
 fn leader(label: u16, x: usize) -> u16
@@ -27,7 +27,7 @@ pub(super) fn count_classes(labels: &[u16; 400], objects: usize) -> u16
 // any other of the class, and 0 for a safe object.
 fn color_of(colors: &[u8; 400], label: u16, x: usize, next: u16) -> u8
     requires { label ≡ x → next ≤ 255 }
-    ensures { result ≡ tintBy label colors.now next x }
+    ensures { result ≡ tint_by label colors.now next x }
 {
     let lowest = label as usize;
     if lowest == x {
@@ -39,7 +39,7 @@ fn color_of(colors: &[u8; 400], label: u16, x: usize, next: u16) -> u8
 // The colors of the first `objects` objects, class after class in the order of the lowest objects.
 pub(super) fn colors_of(labels: &[u16; 400], objects: usize) -> [u8; 400]
     requires { (objects ≤ 400) × (leaders labels.now objects ≤ 254) }
-    ensures { result ≡ numberedFrom objects labels.now 0 2 (replicate 400 0) }
+    ensures { result ≡ numbered_from objects labels.now 0 2 (replicate 400 0) }
 {
     let mut colors = [0; 400];
     let mut next = 2;

@@ -14,117 +14,117 @@ use lib.ListN.{length, take, drop, length-append}
 use lib.Seq.{take_at}
 use Rattle.numbers.specs.declared.Refusal.{Refusal}
 use Rattle.files.specs.Program.{Program}
-use Rattle.files.specs.Reading.{Reading, whole, refusal, readFile}
-use Rattle.files.proofs.RoundTrip.{one-spelling}
+use Rattle.files.specs.Reading.{Reading, whole, refusal, read_file}
+use Rattle.files.proofs.RoundTrip.{one_spelling}
 use Rattle.coloring.specs.Class.{holds}
-use Rattle.coloring.specs.Colored.{colorIn}
+use Rattle.coloring.specs.Colored.{color_in}
 use Rattle.routines.specs.Accepted.{accepted, Accepted}
 use Rattle.routines.proofs.Stages.{crowds, overflows, admits}
 use Rattle.instrumenter.specs.Instrumented.{instrumented}
 use Rattle.instrumenter.specs.declared.Instrumented.{Instrumented}
-use Rattle.instrumenter.specs.Answer.{FileAnswer, newFile, instrument}
+use Rattle.instrumenter.specs.Answer.{FileAnswer, new_file, instrument}
 use Rattle.instrumenter.specs.Answer as instrumenting
-use Rattle.instrumenter.proofs.Answers.{Because, answered-because}
-use Rattle.instrumenter.proofs.ReadsBack.{new-file-reads, fits-again, wrote}
+use Rattle.instrumenter.proofs.Answers.{Because, answered_because}
+use Rattle.instrumenter.proofs.ReadsBack.{new_file_reads, fits_again, wrote}
 use Rattle.machine.specs.State.{Given}
 use Rattle.machine.specs.Runs.{runs}
-use Rattle.start.specs.First.{firstTable}
-use Rattle.machine.specs.Colors.{tableRule}
-use Rattle.memory.proofs.Exact.{is-exact}
-use Rattle.machine.specs.Running.{Lent, Answer, refuse, runProgram, runReading, exactLengths, runFile}
-use Rattle.plain.specs.Plain.{plainRun}
+use Rattle.start.specs.First.{first_table}
+use Rattle.machine.specs.Colors.{table_rule}
+use Rattle.memory.proofs.Exact.{is_exact}
+use Rattle.machine.specs.Running.{Lent, Answer, refuse, run_program, run_reading, exact_lengths, run_file}
+use Rattle.plain.specs.Plain.{plain_run}
 use Rattle.plain.specs.Demands.{NotAccepted, Refuses, Answered, Agree}
-use Rattle.plain.proofs.Itself.{guards-itself}
-use Rattle.plain.proofs.Same.{same-run}
-use Rattle.plain.proofs.Answering.{one-to-seven, read-listed, new-file-short, because-refuses, run-listed}
-use Rattle.controller.specs.Control.{givenFor, plainAnswer, answerTo, control}
-use Rattle.controller.specs.TableAfter.{tableAfter}
-use Rattle.controller.specs.Demands.{ControlRefuses, controlNumbers, ControlIsAnswered, Controls, ControlsAsInstrumented}
+use Rattle.plain.proofs.Itself.{guards_itself}
+use Rattle.plain.proofs.Same.{same_run}
+use Rattle.plain.proofs.Answering.{one_to_seven, read_listed, new_file_short, because_refuses, run_listed}
+use Rattle.controller.specs.Control.{given_for, plain_answer, answer_to, control}
+use Rattle.controller.specs.TableAfter.{table_after}
+use Rattle.controller.specs.Demands.{ControlRefuses, control_numbers, ControlIsAnswered, Controls, ControlsAsInstrumented}
 
-module _ (bytes input : List ℕ) (limit : ℕ) (lent : Lent) (exact : exactLengths lent ≡ true) where
+module _ (bytes input : List ℕ) (limit : ℕ) (lent : Lent) (exact : exact_lengths lent ≡ true) where
   -- the controller's side, by what becomes of the reading
-  answered : {x y : Reading} → readFile 1 bytes ≡ x → accepted x ≡ y → control bytes input limit lent ≡ answerTo input limit lent y
+  answered : {x y : Reading} → read_file 1 bytes ≡ x → accepted x ≡ y → control bytes input limit lent ≡ answer_to input limit lent y
   unfolding control
-  answered r a = rw (exact, control) (ap (λ (x : Reading). answerTo input limit lent (accepted x)) r ∙ ap (answerTo input limit lent) a)
+  answered r a = rw (exact, control) (ap (λ (x : Reading). answer_to input limit lent (accepted x)) r ∙ ap (answer_to input limit lent) a)
 
   -- the run
-  runs-it : (p : Program) → Accepted p → plainAnswer input limit lent p ≡ runFile (newFile p) input limit lent
-  unfolding runFile tableAfter
-  runs-it p accepted =
-      let q : Program = instrumented (colorIn p) p in
-      let given : Given = givenFor input limit lent in
-      let agree : Agree (runs (tableRule q) given (firstTable q)) (plainRun p given) = same-run p q given accepted (guards-itself p accepted) in
-      let ran : runProgram input limit lent q ≡ plainAnswer input limit lent p =
+  runs_it : (p : Program) → Accepted p → plain_answer input limit lent p ≡ run_file (new_file p) input limit lent
+  unfolding run_file table_after
+  runs_it p accepted =
+      let q : Program = instrumented (color_in p) p in
+      let given : Given = given_for input limit lent in
+      let agree : Agree (runs (table_rule q) given (first_table q)) (plain_run p given) = same_run p q given accepted (guards_itself p accepted) in
+      let ran : run_program input limit lent q ≡ plain_answer input limit lent p =
       λ i.
       record {
         run = agree.run i;
         lent =
             record {
               memory = agree.memory i;
-              table = (runs (tableRule q) given (firstTable q)).own;
+              table = (runs (table_rule q) given (first_table q)).own;
               room = agree.outs i ++ drop (length (agree.outs i)) lent.room;
             };
       } in
-      sym (rw (exact, runFile) (ap (runReading input limit lent) (new-file-reads p accepted) ∙ rw (fits-again p accepted, runReading) ran))
+      sym (rw (exact, run_file) (ap (run_reading input limit lent) (new_file_reads p accepted) ∙ rw (fits_again p accepted, run_reading) ran))
 
-  controls-because : (a : FileAnswer) → Because bytes 32768 a → Controls bytes input limit lent a
-  controls-because a (Because.unread r) = answered r refl
-  controls-because a (Because.crowded {p} r c) = answered r (crowds p c)
-  controls-because a (Because.overfull {p} r c f) = answered r (overflows p c f)
-  controls-because a (Because.cramped {p} r c f l) =
-      let short : length (newFile p) ≤ 32768 = new-file-short p (record { good = (one-spelling 1 bytes p r).good; classes = c; fitting = f }) in
+  controls_because : (a : FileAnswer) → Because bytes 32768 a → Controls bytes input limit lent a
+  controls_because a (Because.unread r) = answered r refl
+  controls_because a (Because.crowded {p} r c) = answered r (crowds p c)
+  controls_because a (Because.overfull {p} r c f) = answered r (overflows p c f)
+  controls_because a (Because.cramped {p} r c f l) =
+      let short : length (new_file p) ≤ 32768 = new_file_short p (record { good = (one_spelling 1 bytes p r).good; classes = c; fitting = f }) in
       absurd (omega arith)
-  controls-because a (Because.written {p} r c f l) =
-      answered r (admits p c f) ∙ runs-it p (record { good = (one-spelling 1 bytes p r).good; classes = c; fitting = f })
+  controls_because a (Because.written {p} r c f l) =
+      answered r (admits p c f) ∙ runs_it p (record { good = (one_spelling 1 bytes p r).good; classes = c; fitting = f })
 
 pub controls : ControlsAsInstrumented
-controls bytes input limit lent exact = controls-because bytes input limit lent exact (instrument bytes 32768) (answered-because bytes 32768)
+controls bytes input limit lent exact = controls_because bytes input limit lent exact (instrument bytes 32768) (answered_because bytes 32768)
 
 -- ---- every answer
 
-control-one-to-seven : (n : ℕ) → 1 ≤ n → n ≤ 7 → holds controlNumbers n ≡ true
-control-one-to-seven = one-to-seven _
+control_one_to_seven : (n : ℕ) → 1 ≤ n → n ≤ 7 → holds control_numbers n ≡ true
+control_one_to_seven = one_to_seven _
 
-not-accepted-listed : (bytes : List ℕ) (q : Refusal) → NotAccepted bytes q → holds controlNumbers q.number ≡ true
+not_accepted_listed : (bytes : List ℕ) (q : Refusal) → NotAccepted bytes q → holds control_numbers q.number ≡ true
 unfolding holds
-not-accepted-listed bytes q (NotAccepted.unread why) = read-listed controlNumbers control-one-to-seven 1 bytes q why
-not-accepted-listed bytes q (NotAccepted.crowded p says many) = refl
-not-accepted-listed bytes q (NotAccepted.overfull p says few over) = refl
+not_accepted_listed bytes q (NotAccepted.unread why) = read_listed control_numbers control_one_to_seven 1 bytes q why
+not_accepted_listed bytes q (NotAccepted.crowded p says many) = refl
+not_accepted_listed bytes q (NotAccepted.overfull p says few over) = refl
 
 module _ (bytes input : List ℕ) (limit : ℕ) (lent : Lent) where
   abbrev Told : Answer → Type 0
-  Told = Answered (ControlRefuses bytes lent) controlNumbers lent
+  Told = Answered (ControlRefuses bytes lent) control_numbers lent
 
-  refused-told : (q : Refusal) → Refuses bytes 32768 q → Told (refuse lent q)
-  refused-told q (Refuses.notAccepted why) = Answered.refused q (ControlRefuses.notAccepted why) (not-accepted-listed bytes q why)
-  refused-told q (Refuses.cramped p says accepted out e wide) =
+  refused_told : (q : Refusal) → Refuses bytes 32768 q → Told (refuse lent q)
+  refused_told q (Refuses.not_accepted why) = Answered.refused q (ControlRefuses.not_accepted why) (not_accepted_listed bytes q why)
+  refused_told q (Refuses.cramped p says accepted out e wide) =
       let short : length out ≤ 32768 = (wrote bytes 32768 out e).short in
       absurd (omega arith)
 
   -- a run of what was written is a run: it is refused for nothing
-  run-told : (out : List ℕ) → instrument bytes 32768 ≡ FileAnswer.file out → exactLengths lent ≡ true → Told (runFile out input limit lent)
-  unfolding runFile
-  run-told out e exact =
+  run_told : (out : List ℕ) → instrument bytes 32768 ≡ FileAnswer.file out → exact_lengths lent ≡ true → Told (run_file out input limit lent)
+  unfolding run_file
+  run_told out e exact =
       let w = wrote bytes 32768 out e in
-      let q : Program = instrumented (colorIn w.routine) w.routine in
-      let read : readFile 2 out ≡ whole q = ap (readFile 2) (sym w.spelled) ∙ new-file-reads w.routine w.accepted in
-      let ran : runFile out input limit lent ≡ runProgram input limit lent q =
-      rw (exact, runFile) (ap (runReading input limit lent) read ∙ rw (fits-again w.routine w.accepted, runReading)) in
-      subst Told (sym ran) (Answered.ended (runProgram input limit lent q) (run-listed input limit lent q))
+      let q : Program = instrumented (color_in w.routine) w.routine in
+      let read : read_file 2 out ≡ whole q = ap (read_file 2) (sym w.spelled) ∙ new_file_reads w.routine w.accepted in
+      let ran : run_file out input limit lent ≡ run_program input limit lent q =
+      rw (exact, run_file) (ap (run_reading input limit lent) read ∙ rw (fits_again w.routine w.accepted, run_reading)) in
+      subst Told (sym ran) (Answered.ended (run_program input limit lent q) (run_listed input limit lent q))
 
-  told : (a : FileAnswer) → instrument bytes 32768 ≡ a → exactLengths lent ≡ true → Controls bytes input limit lent a → Told (control bytes input limit lent)
-  told (FileAnswer.file out) e exact k = subst Told (sym k) (run-told out e exact)
+  told : (a : FileAnswer) → instrument bytes 32768 ≡ a → exact_lengths lent ≡ true → Controls bytes input limit lent a → Told (control bytes input limit lent)
+  told (FileAnswer.file out) e exact k = subst Told (sym k) (run_told out e exact)
   told (FileAnswer.refused q) e exact k =
-      subst Told (sym k) (refused-told q (because-refuses bytes 32768 (instrument bytes 32768) (answered-because bytes 32768) q e))
+      subst Told (sym k) (refused_told q (because_refuses bytes 32768 (instrument bytes 32768) (answered_because bytes 32768) q e))
 
-pub control-is-answered : ControlIsAnswered
+pub control_is_answered : ControlIsAnswered
 unfolding control holds
-control-is-answered bytes input limit lent = go (exactLengths lent) refl
+control_is_answered bytes input limit lent = go (exact_lengths lent) refl
   where
-    go : (b : Bool) → exactLengths lent ≡ b → Answered (ControlRefuses bytes lent) controlNumbers lent (control bytes input limit lent)
+    go : (b : Bool) → exact_lengths lent ≡ b → Answered (ControlRefuses bytes lent) control_numbers lent (control bytes input limit lent)
     go true e = told bytes input limit lent (instrument bytes 32768) refl e (controls bytes input limit lent e)
     go false e =
-        subst (Answered (ControlRefuses bytes lent) controlNumbers lent) (sym (rw (e, control)))
+        subst (Answered (ControlRefuses bytes lent) control_numbers lent) (sym (rw (e, control)))
         (Answered.refused (refusal 11 0) (ControlRefuses.lengths e) refl)
 
 -- ---- what the function's returns need
@@ -134,22 +134,22 @@ of memory table room = record { memory = memory; table = table; room = room }
 
 module _ (bytes input : List ℕ) (limit : ℕ) (memory table room : List ℕ) where
   -- "11 | memory or table not of its exact length"
-  pub wrong-lengths : exactLengths (of memory table room) ≡ false
+  pub wrong_lengths : exact_lengths (of memory table room) ≡ false
       → control bytes input limit (of memory table room) ≡ refuse (of memory table room) (refusal 11 0)
   unfolding control
-  wrong-lengths e = simp (e, control)
+  wrong_lengths e = simp (e, control)
 
   module _ (m : length memory ≡ 57344) (t : length table ≡ 7168) (file : List ℕ) (long : length file ≡ 32768) where
-    exact-lengths : exactLengths (of memory table room) ≡ true
-    exact-lengths = is-exact memory table m t
+    exact_lengths_lem : exact_lengths (of memory table room) ≡ true
+    exact_lengths_lem = is_exact memory table m t
 
     answer : Controls bytes input limit (of memory table room) (instrument bytes (length file))
-    answer = rw long (controls bytes input limit (of memory table room) exact-lengths)
+    answer = rw long (controls bytes input limit (of memory table room) exact_lengths_lem)
 
     -- the instrumenter refuses
-    pub refused-so : (q : Refusal) → instrumenting.told (instrument bytes (length file)) ≡ Instrumented.Refused q
+    pub refused_so : (q : Refusal) → instrumenting.told (instrument bytes (length file)) ≡ Instrumented.Refused q
         → control bytes input limit (of memory table room) ≡ refuse (of memory table room) q
-    refused-so q e = go (instrument bytes (length file)) answer e
+    refused_so q e = go (instrument bytes (length file)) answer e
       where
         go : (a : FileAnswer) → Controls bytes input limit (of memory table room) a → instrumenting.told a ≡ Instrumented.Refused q
             → control bytes input limit (of memory table room) ≡ refuse (of memory table room) q
@@ -157,16 +157,16 @@ module _ (bytes input : List ℕ) (limit : ℕ) (memory table room : List ℕ) w
         go (FileAnswer.refused q') k e = let same : q' ≡ q = cc in k ∙ ap (refuse (of memory table room)) same
 
     -- the instrumenter writes n bytes at the front of the file's room, and the machine runs them
-    pub written-so : (n : ℕ) (after : List ℕ) → instrumenting.told (instrument bytes (length file)) ≡ Instrumented.Written n
-        → after ≡ instrumenting.roomHolding file (instrument bytes (length file))
-        → (n ≤ length after) × (runFile (take n after) input limit (of memory table room) ≡ control bytes input limit (of memory table room))
-    written-so n after e h = go (instrument bytes (length file)) answer e h
+    pub written_so : (n : ℕ) (after : List ℕ) → instrumenting.told (instrument bytes (length file)) ≡ Instrumented.Written n
+        → after ≡ instrumenting.room_holding file (instrument bytes (length file))
+        → (n ≤ length after) × (run_file (take n after) input limit (of memory table room) ≡ control bytes input limit (of memory table room))
+    written_so n after e h = go (instrument bytes (length file)) answer e h
       where
         go : (a : FileAnswer) → Controls bytes input limit (of memory table room) a → instrumenting.told a ≡ Instrumented.Written n
-            → after ≡ instrumenting.roomHolding file a
-            → (n ≤ length after) × (runFile (take n after) input limit (of memory table room) ≡ control bytes input limit (of memory table room))
+            → after ≡ instrumenting.room_holding file a
+            → (n ≤ length after) × (run_file (take n after) input limit (of memory table room) ≡ control bytes input limit (of memory table room))
         go (FileAnswer.file out) k e h =
             let size : length out ≡ n = cc in
             let front : take n after ≡ out = ap (take n) h ∙ take_at out (drop (length out) file) n size in
-            (rw h (simp length-append (omega arith)), ap (λ (l : List ℕ). runFile l input limit (of memory table room)) front ∙ sym k)
+            (rw h (simp length-append (omega arith)), ap (λ (l : List ℕ). run_file l input limit (of memory table room)) front ∙ sym k)
         go (FileAnswer.refused q) k e h = let z : ◌≡◌ {A = ℕ} 0 1 = cc in absurd (omega arith)

@@ -4,40 +4,40 @@
 use Rattle.std.specs.Prelude.{ℕ, List, ◌++◌, true, false, length, drop}
 use Rattle.numbers.specs.declared.Refusal.{Refusal}
 use Rattle.files.specs.Program.{Program}
-use Rattle.files.specs.Reading.{Reading, whole, refusal, readFile}
+use Rattle.files.specs.Reading.{Reading, whole, refusal, read_file}
 use Rattle.routines.specs.Accepted.{accepted}
 use Rattle.machine.specs.State.{Given}
-use Rattle.machine.specs.Running.{Lent, Answer, refuse, exactLengths}
-use Rattle.plain.specs.Plain.{plainRun}
-use Rattle.controller.specs.TableAfter.{tableAfter}
+use Rattle.machine.specs.Running.{Lent, Answer, refuse, exact_lengths}
+use Rattle.plain.specs.Plain.{plain_run}
+use Rattle.controller.specs.TableAfter.{table_after}
 
-abbrev pub givenFor : (input : List ℕ) (limit : ℕ) → Lent → Given
-givenFor input limit lent = record { input = input; room = length lent.room; limit = limit }
+abbrev pub given_for : (input : List ℕ) (limit : ℕ) → Lent → Given
+given_for input limit lent = record { input = input; room = length lent.room; limit = limit }
 
 -- the outcome of the plain rule: its record, its numbers out, and all of its memory
-abbrev pub plainAnswer : (input : List ℕ) (limit : ℕ) → Lent → Program → Answer
-plainAnswer input limit lent p =
+abbrev pub plain_answer : (input : List ℕ) (limit : ℕ) → Lent → Program → Answer
+plain_answer input limit lent p =
     record {
-      run = (plainRun p (givenFor input limit lent)).run;
+      run = (plain_run p (given_for input limit lent)).run;
       lent =
           record {
-            memory = (plainRun p (givenFor input limit lent)).memory;
-            table = tableAfter p (givenFor input limit lent);
+            memory = (plain_run p (given_for input limit lent)).memory;
+            table = table_after p (given_for input limit lent);
             room =
-                (plainRun p (givenFor input limit lent)).outs
-                ++ drop (length (plainRun p (givenFor input limit lent)).outs) lent.room;
+                (plain_run p (given_for input limit lent)).outs
+                ++ drop (length (plain_run p (given_for input limit lent)).outs) lent.room;
           };
     }
 
-abbrev pub answerTo : (input : List ℕ) (limit : ℕ) → Lent → Reading → Answer
-answerTo input limit lent (whole p) = plainAnswer input limit lent p
-answerTo input limit lent (Reading.refused q) = refuse lent q
+abbrev pub answer_to : (input : List ℕ) (limit : ℕ) → Lent → Reading → Answer
+answer_to input limit lent (whole p) = plain_answer input limit lent p
+answer_to input limit lent (Reading.refused q) = refuse lent q
 
 -- "Order: 11 first (running only), then 1, then the file from left to right, then 8 and 9"; 10 cannot
 -- happen, since the controller brings its own room for the instrumented file
 unfoldable pub control : (file input : List ℕ) (limit : ℕ) → Lent → Answer
 control file input limit lent =
-    elim (exactLengths lent) [
-      | true ↦ answerTo input limit lent (accepted (readFile 1 file))
+    elim (exact_lengths lent) [
+      | true ↦ answer_to input limit lent (accepted (read_file 1 file))
       | false ↦ refuse lent (refusal 11 0)
     ]

@@ -5,6 +5,6 @@ use Rattle.files.specs.Reading.{refusal}
 use Rattle.instrumenter.specs.declared.Instrumented.{Instrumented}
 
 -- the refusal of the instrumenter, where it refused
-abbrev pub whyNot : Instrumented → Refusal
-whyNot (Instrumented.Written n) = refusal 0 0
-whyNot (Instrumented.Refused q) = q
+abbrev pub why_not : Instrumented → Refusal
+why_not (Instrumented.Written n) = refusal 0 0
+why_not (Instrumented.Refused q) = q

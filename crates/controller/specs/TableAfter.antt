@@ -2,13 +2,13 @@
 -- else that the controller promises rests on this.
 use Rattle.std.specs.Prelude.{ℕ, List}
 use Rattle.files.specs.Program.{Program}
-use Rattle.coloring.specs.Colored.{colorIn}
+use Rattle.coloring.specs.Colored.{color_in}
 use Rattle.instrumenter.specs.Instrumented.{instrumented}
 use Rattle.machine.specs.State.{Given}
 use Rattle.machine.specs.Runs.{runs}
-use Rattle.start.specs.First.{firstTable}
-use Rattle.machine.specs.Colors.{tableRule}
+use Rattle.start.specs.First.{first_table}
+use Rattle.machine.specs.Colors.{table_rule}
 
-unfoldable pub tableAfter : Program → Given → List ℕ
-tableAfter p given =
-    (runs (tableRule (instrumented (colorIn p) p)) given (firstTable (instrumented (colorIn p) p))).own
+unfoldable pub table_after : Program → Given → List ℕ
+table_after p given =
+    (runs (table_rule (instrumented (color_in p) p)) given (first_table (instrumented (color_in p) p))).own

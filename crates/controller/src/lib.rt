@@ -2,9 +2,9 @@
 // what comes out is what the plain rule says.
 
 ghost use Rattle.std.specs.Prelude.{◌≡◌, length};
-ghost use Rattle.stops.specs.Stop.{fiveOf};
+ghost use Rattle.stops.specs.Stop.{five_of};
 ghost use Rattle.controller.specs.Control.{control};
-ghost use Rattle.controller.specs.Inside.{whyNot};
+ghost use Rattle.controller.specs.Inside.{why_not};
 ghost use Rattle.machine.specs.Running.{lent_of, answered};
 
 use instrumenter::{Instrumented, instrument};
@@ -15,7 +15,7 @@ use stops::{Run, numbers_of, refused};
 
 // Why a routine was not instrumented.
 fn why_not(answer: Instrumented) -> Refusal
-    ensures { result ≡ whyNot answer }
+    ensures { result ≡ why_not answer }
 {
     match answer {
         Instrumented::Written(_) => Refusal {
@@ -86,7 +86,7 @@ pub extern "C" fn toltjebrim_control(
     limit: u32,
     numbers: &mut [u64; 5],
 )
-    ensures numbers { numbers.new ≡ fiveOf (control file.now input.now limit (lent_of memory.old table.old room.old)).run }
+    ensures numbers { numbers.new ≡ five_of (control file.now input.now limit (lent_of memory.old table.old room.old)).run }
     ensures lent { lent_of memory.new table.new room.new ≡ (control file.now input.now limit (lent_of memory.old table.old room.old)).lent }
 {
     let run = control(file, input, memory, table, room, limit);

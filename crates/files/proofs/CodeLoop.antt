@@ -14,57 +14,57 @@ use Rattle.files.specs.declared.InstrRead.{InstrRead}
 use Rattle.opcodes.specs.Ranges.{Scope}
 use Rattle.files.specs.Held.{filled, line}
 use Rattle.files.proofs.Filled.{map_more}
-use Rattle.files.specs.Parsing.{Parsed, got, refused, readInstr, codeFrom}
+use Rattle.files.specs.Parsing.{Parsed, got, refused, read_instr, code_from}
 
 -- one turn
 module _ (left : ℕ) (scope : Scope) (file : List ℕ) (at : ℕ) (done : List Instr) where
   abbrev turn : InstrRead → Parsed (List Instr)
-  turn (InstrRead.Instr i next) = codeFrom left scope file next.at (done ++ i ∷ [])
+  turn (InstrRead.Instr i next) = code_from left scope file next.at (done ++ i ∷ [])
   turn (InstrRead.Refused q) = refused q
 
-  pub instr-more : {i : Instr} {next : Cursor} → readInstr scope file at ≡ InstrRead.Instr i next
-      → codeFrom (suc left) scope file at done ≡ codeFrom left scope file next.at (done ++ i ∷ [])
-  unfolding codeFrom
-  instr-more e = ap turn e
+  pub instr_more : {i : Instr} {next : Cursor} → read_instr scope file at ≡ InstrRead.Instr i next
+      → code_from (suc left) scope file at done ≡ code_from left scope file next.at (done ++ i ∷ [])
+  unfolding code_from
+  instr_more e = ap turn e
 
-  pub instr-stops : {q : Refusal} → readInstr scope file at ≡ InstrRead.Refused q → codeFrom (suc left) scope file at done ≡ refused q
-  unfolding codeFrom
-  instr-stops e = ap turn e
+  pub instr_stops : {q : Refusal} → read_instr scope file at ≡ InstrRead.Refused q → code_from (suc left) scope file at done ≡ refused q
+  unfolding code_from
+  instr_stops e = ap turn e
 
 pub record Filling (scope : Scope) (count : ℕ) (file : List ℕ) (from : ℕ) (code : List Line) (next i : ℕ) : Type 0 where
   pub done : List Instr
   pub at_most : i ≤ count
   pub counted : i ≡ length done
-  pub rest : codeFrom (count - i) scope file next done ≡ codeFrom count scope file from []
-  pub held-code : code ≡ filled 2000 (line Instr.End) (map line done)
+  pub rest : code_from (count - i) scope file next done ≡ code_from count scope file from []
+  pub held_code : code ≡ filled 2000 (line Instr.End) (map line done)
 
 pub start : (scope : Scope) (count : ℕ) (file : List ℕ) (from : ℕ) {code : List Line} → code ≡ filled 2000 (line Instr.End) []
     → Filling scope count file from code from 0
-start scope count file from e = record { done = []; at_most = omega arith; counted = refl; rest = rw sub-zero; held-code = e }
+start scope count file from e = record { done = []; at_most = omega arith; counted = refl; rest = rw sub-zero; held_code = e }
 
 module _ {scope : Scope} {count : ℕ} {file : List ℕ} {from : ℕ} {code : List Line} {next i : ℕ}
     (f : Filling scope count file from code next i) where
-  here : i < count → codeFrom (suc (count - (i + 1))) scope file next f.done ≡ codeFrom count scope file from []
+  here : i < count → code_from (suc (count - (i + 1))) scope file next f.done ≡ code_from count scope file from []
   here h =
       let one : suc (count - (i + 1)) ≡ count - i = omega arith in
-      ap (λ (n : ℕ). codeFrom n scope file next f.done) one ∙ f.rest
+      ap (λ (n : ℕ). code_from n scope file next f.done) one ∙ f.rest
 
-  pub more : i < count → count ≤ 2000 → {instr : Instr} {behind : Cursor} → readInstr scope file next ≡ InstrRead.Instr instr behind
+  pub more : i < count → count ≤ 2000 → {instr : Instr} {behind : Cursor} → read_instr scope file next ≡ InstrRead.Instr instr behind
       → Filling scope count file from (set code i (line instr)) behind.at (i + 1)
   more h few {instr} {behind} e =
       record {
         done = f.done ++ instr ∷ [];
         at_most = omega arith;
         counted = rw length-append (omega (arith, f.counted));
-        rest = sym (instr-more (count - (i + 1)) scope file next f.done e) ∙ here h;
-        held-code = map_more 2000 (line Instr.End) line f.done instr f.held-code f.counted (omega arith);
+        rest = sym (instr_more (count - (i + 1)) scope file next f.done e) ∙ here h;
+        held_code = map_more 2000 (line Instr.End) line f.done instr f.held_code f.counted (omega arith);
       }
 
-  pub stops : i < count → {q : Refusal} → readInstr scope file next ≡ InstrRead.Refused q → codeFrom count scope file from [] ≡ refused q
-  stops h e = sym (here h) ∙ instr-stops (count - (i + 1)) scope file next f.done e
+  pub stops : i < count → {q : Refusal} → read_instr scope file next ≡ InstrRead.Refused q → code_from count scope file from [] ≡ refused q
+  stops h e = sym (here h) ∙ instr_stops (count - (i + 1)) scope file next f.done e
 
-  pub ends : count ≤ i → codeFrom count scope file from [] ≡ got f.done next
-  unfolding codeFrom
+  pub ends : count ≤ i → code_from count scope file from [] ≡ got f.done next
+  unfolding code_from
   ends h =
       let none : 0 ≡ count - i = omega (arith, f.at_most) in
-      sym f.rest ∙ ap (λ (n : ℕ). codeFrom n scope file next f.done) (sym none)
+      sym f.rest ∙ ap (λ (n : ℕ). code_from n scope file next f.done) (sym none)

@@ -28,12 +28,12 @@ module _ {A : Type 0} (n : ℕ) (blank : A) where
       rw (e, room, set-append_seam, append_assoc)
 
   -- several elements
-  pub filled-run : (ys xs : List A) (i : ℕ) → i ≡ length xs → i + length ys ≤ n → sets (filled n blank xs) i ys ≡ filled n blank (xs ++ ys)
-  filled-run [] xs i e h = rw append-nil
-  filled-run (y ∷ ys) xs i e h =
+  pub filled_run : (ys xs : List A) (i : ℕ) → i ≡ length xs → i + length ys ≤ n → sets (filled n blank xs) i ys ≡ filled n blank (xs ++ ys)
+  filled_run [] xs i e h = rw append-nil
+  filled_run (y ∷ ys) xs i e h =
       let next : suc i ≡ length (xs ++ y ∷ []) = rw length-append (omega arith) in
       ap (λ (l : List A). sets l (suc i) ys) (filled_more xs y i e (omega arith))
-      ∙ filled-run ys (xs ++ y ∷ []) (suc i) next (omega arith) ∙ rw append_assoc
+      ∙ filled_run ys (xs ++ y ∷ []) (suc i) next (omega arith) ∙ rw append_assoc
 
   -- the elements that count
   pub take-filled : (xs : List A) (i : ℕ) → i ≡ length xs → take i (filled n blank xs) ≡ xs
@@ -41,9 +41,9 @@ module _ {A : Type 0} (n : ℕ) (blank : A) where
   take-filled xs i e = rw (e, take-append_seam)
 
   -- an element, or the blank where there is none
-  pub getD-filled : (xs : List A) (i : ℕ) → get_or (filled n blank xs) i blank ≡ get_or xs i blank
+  pub get_d_filled : (xs : List A) (i : ℕ) → get_or (filled n blank xs) i blank ≡ get_or xs i blank
   unfolding filled
-  getD-filled xs i = go (n - length xs) xs i
+  get_d_filled xs i = go (n - length xs) xs i
     where
       go : (k : ℕ) (xs : List A) (i : ℕ) → get_or (xs ++ replicate k blank) i blank ≡ get_or xs i blank
       go zero [] i = refl
@@ -53,8 +53,8 @@ module _ {A : Type 0} (n : ℕ) (blank : A) where
       go k (x ∷ xs) (suc i) = go k xs i
 
 -- what f gives for an element, where the blank is what it gives for none
-pub getD-filled-map : {A B : Type 0} (n : ℕ) (f : A → B) (none : A) (xs : List A) (i : ℕ) → get_or (filled n (f none) (map f xs)) i (f none) ≡ f (get_or xs i none)
-getD-filled-map n f none xs i = getD-filled n (f none) (map f xs) i ∙ get_or-map f xs i none
+pub get_d_filled_map : {A B : Type 0} (n : ℕ) (f : A → B) (none : A) (xs : List A) (i : ℕ) → get_or (filled n (f none) (map f xs)) i (f none) ≡ f (get_or xs i none)
+get_d_filled_map n f none xs i = get_d_filled n (f none) (map f xs) i ∙ get_or-map f xs i none
 
 -- a loop that stores what f gives for each element that is done
 pub map_more : {A B : Type 0} (n : ℕ) (blank : B) (f : A → B) (done : List A) (x : A) {array : List B} {i : ℕ}
@@ -64,18 +64,18 @@ map_more n blank f done x {array} {i} held counted h =
     ∙ ap (filled n blank) (sym (map-append f done (x ∷ [])))
 
 -- the instructions of lines that hold them
-pub instrs-lines : (code : List Instr) → map (λ x. x.instr) (map line code) ≡ code
-instrs-lines [] = refl
-instrs-lines (i ∷ code) = ap (λ (l : List Instr). i ∷ l) (instrs-lines code)
+pub instrs_lines : (code : List Instr) → map (λ x. x.instr) (map line code) ≡ code
+instrs_lines [] = refl
+instrs_lines (i ∷ code) = ap (λ (l : List Instr). i ∷ l) (instrs_lines code)
 
 -- the lines that count are the code
-pub lines-filled : (n : ℕ) (blank : Line) (code : List Instr) → map (λ x. x.instr) (take (length code) (filled n blank (map line code))) ≡ code
-lines-filled n blank code =
-    ap (map (λ x. x.instr)) (take-filled n blank (map line code) (length code) (sym (length-map code line))) ∙ instrs-lines code
+pub lines_filled : (n : ℕ) (blank : Line) (code : List Instr) → map (λ x. x.instr) (take (length code) (filled n blank (map line code))) ≡ code
+lines_filled n blank code =
+    ap (map (λ x. x.instr)) (take-filled n blank (map line code) (length code) (sym (length-map code line))) ∙ instrs_lines code
 
 -- a run of stores after another
-pub sets-append : {A : Type 0} (l : List A) (i : ℕ) (xs ys : List A) → sets l i (xs ++ ys) ≡ sets (sets l i xs) (i + length xs) ys
-sets-append l i [] ys = rw add-zero
-sets-append l i (x ∷ xs) ys =
+pub sets_append : {A : Type 0} (l : List A) (i : ℕ) (xs ys : List A) → sets l i (xs ++ ys) ≡ sets (sets l i xs) (i + length xs) ys
+sets_append l i [] ys = rw add-zero
+sets_append l i (x ∷ xs) ys =
     let e : suc i + length xs ≡ i + suc (length xs) = omega arith in
-    sets-append (set l i x) (suc i) xs ys ∙ ap (λ (k : ℕ). sets (sets (set l i x) (suc i) xs) k ys) e
+    sets_append (set l i x) (suc i) xs ys ∙ ap (λ (k : ℕ). sets (sets (set l i x) (suc i) xs) k ys) e

@@ -12,14 +12,14 @@ use Rattle.numbers.specs.declared.Cursor.{Cursor}
 use Rattle.numbers.specs.declared.Read.{Read}
 use Rattle.opcodes.specs.declared.Operand.{Operand}
 use Rattle.opcodes.specs.declared.Instr.{Instr}
-use Rattle.opcodes.specs.Table.{rowOf, operandsOf, make}
-use Rattle.opcodes.specs.Ranges.{Scope, hasSets, hasOpcode, within, isColor, present, allowed}
+use Rattle.opcodes.specs.Table.{row_of, operands_of, make}
+use Rattle.opcodes.specs.Ranges.{Scope, has_sets, has_opcode, within, is_color, present, allowed}
 use Rattle.files.specs.declared.Object.{Object}
 use Rattle.files.specs.declared.ObjectRead.{ObjectRead}
 use Rattle.files.specs.declared.InstrRead.{InstrRead}
-use Rattle.files.specs.Program.{hasColors, mostCode, longest, kindsOf}
-use Rattle.files.specs.Reading.{Reading, judged, Plan, done, on, follow, maybe, many, objectPlan, isMember, membersPlan, setPlan, setsPlan, operandPlan, operandsPlan, instrPlan, codePlan, filePlan, readFile}
-use Rattle.files.specs.Parsing.{Parsed, got, cursor, afterColor, colorAt, afterSize, size_at, afterKind, readObject, objectsFrom, membersFrom, afterMemberCount, readSet, setsFrom, operand_at, onNumber, operandsAt, readInstr, codeFrom, afterCode, afterCodeCount, afterSets, afterSetCount, afterObjects, afterObjectCount, afterVersion}
+use Rattle.files.specs.Program.{has_colors, most_code, longest, kinds_of}
+use Rattle.files.specs.Reading.{Reading, judged, Plan, done, on, follow, maybe, many, object_plan, is_member, members_plan, set_plan, sets_plan, operand_plan, operands_plan, instr_plan, code_plan, file_plan, read_file}
+use Rattle.files.specs.Parsing.{Parsed, got, cursor, after_color, color_at, after_size, size_at, after_kind, read_object, objects_from, members_from, after_member_count, read_set, sets_from, operand_at, on_number, operands_at, read_instr, code_from, after_code, after_code_count, after_sets, after_set_count, after_objects, after_object_count, after_version}
 
 -- what becomes of a part that was read
 abbrev after : {A : Type 0} → Parsed A → (A → ℕ → Reading) → Reading
@@ -27,18 +27,18 @@ after (got x next) f = f x next
 after (Parsed.refused q) f = Reading.refused q
 
 -- the plan of an object, from its second number on
-abbrev colorPlan : (version kind size : ℕ) → (Object → Plan) → Plan
-colorPlan version kind size k = maybe (hasColors version) isColor λ color. k (record { kind = kind; size = size; color = color })
+abbrev color_plan : (version kind size : ℕ) → (Object → Plan) → Plan
+color_plan version kind size k = maybe (has_colors version) is_color λ color. k (record { kind = kind; size = size; color = color })
 
-abbrev sizePlan : (version kind : ℕ) → (Object → Plan) → Plan
-sizePlan version kind k = maybe (eqb kind 0) (within 1 4096) λ size. colorPlan version kind size k
+abbrev size_plan : (version kind : ℕ) → (Object → Plan) → Plan
+size_plan version kind k = maybe (eqb kind 0) (within 1 4096) λ size. color_plan version kind size k
 
 -- what follows the objects
-abbrev objectsPlan : (version : ℕ) → List Object → Plan
-objectsPlan version os = setsPlan (hasSets version) (length os) λ ss. codePlan version os ss
+abbrev objects_plan : (version : ℕ) → List Object → Plan
+objects_plan version os = sets_plan (has_sets version) (length os) λ ss. code_plan version os ss
 
-abbrev scopeFor : (version : ℕ) → List Object → List (List ℕ) → (code : ℕ) → Scope
-scopeFor version os ss n = record { version = version; kinds = kindsOf os; sets = length ss; code = n }
+abbrev scope_for : (version : ℕ) → List Object → List (List ℕ) → (code : ℕ) → Scope
+scope_for version os ss n = record { version = version; kinds = kinds_of os; sets = length ss; code = n }
 
 -- what a thing's reader answers
 abbrev object : ObjectRead → Parsed Object
@@ -52,93 +52,93 @@ instr (InstrRead.Refused q) = Parsed.refused q
 module _ (file : List ℕ) where
   -- ---- one thing
 
-  follow-maybe : (b : Bool) (test : ℕ → Bool) (k : ℕ → Plan) (at : ℕ)
+  follow_maybe : (b : Bool) (test : ℕ → Bool) (k : ℕ → Plan) (at : ℕ)
       → follow (maybe b test k) file at ≡ on (elim b [ true ↦ judged 6 test file at | false ↦ Read.Number 0 (cursor at) ]) (λ n behind. follow (k n) file behind)
   unfolding follow
-  follow-maybe true test k at = refl
-  follow-maybe false test k at = refl
+  follow_maybe true test k at = refl
+  follow_maybe false test k at = refl
 
   module _ (version : ℕ) (k : Object → Plan) where
     colored : (kind size : ℕ) (r : Read)
         → on r (λ n behind. follow (k (record { kind = kind; size = size; color = n })) file behind)
-        ≡ after (object (afterColor kind size r)) (λ o behind. follow (k o) file behind)
+        ≡ after (object (after_color kind size r)) (λ o behind. follow (k o) file behind)
     colored kind size (Read.Number n c) = refl
     colored kind size (Read.Refused q) = refl
 
     sized : (kind : ℕ) (r : Read)
-        → on r (λ n behind. follow (colorPlan version kind n k) file behind)
-        ≡ after (object (afterSize version file kind r)) (λ o behind. follow (k o) file behind)
+        → on r (λ n behind. follow (color_plan version kind n k) file behind)
+        ≡ after (object (after_size version file kind r)) (λ o behind. follow (k o) file behind)
     sized kind (Read.Number n c) =
-        follow-maybe (hasColors version) isColor _ c.at ∙ colored kind n (colorAt version file c.at)
+        follow_maybe (has_colors version) is_color _ c.at ∙ colored kind n (color_at version file c.at)
     sized kind (Read.Refused q) = refl
 
     kinded : (r : Read)
-        → on r (λ n behind. follow (sizePlan version n k) file behind)
-        ≡ after (object (afterKind version file r)) (λ o behind. follow (k o) file behind)
-    kinded (Read.Number n c) = follow-maybe (eqb n 0) (within 1 4096) _ c.at ∙ sized n (size_at file n c.at)
+        → on r (λ n behind. follow (size_plan version n k) file behind)
+        ≡ after (object (after_kind version file r)) (λ o behind. follow (k o) file behind)
+    kinded (Read.Number n c) = follow_maybe (eqb n 0) (within 1 4096) _ c.at ∙ sized n (size_at file n c.at)
     kinded (Read.Refused q) = refl
 
-    follow-object : (at : ℕ)
-        → follow (objectPlan version k) file at ≡ after (object (readObject version file at)) (λ o behind. follow (k o) file behind)
+    follow_object : (at : ℕ)
+        → follow (object_plan version k) file at ≡ after (object (read_object version file at)) (λ o behind. follow (k o) file behind)
     unfolding follow
-    follow-object at = kinded (judged 6 (within 0 1) file at)
+    follow_object at = kinded (judged 6 (within 0 1) file at)
 
   module _ (scope : Scope) (k : Instr → Plan) where
-    follow-operand : (kind : Operand) (next : ℕ → Plan) (at : ℕ)
-        → follow (operandPlan scope kind next) file at ≡ on (operand_at scope kind file at) (λ n behind. follow (next n) file behind)
-    follow-operand kind next at = follow-maybe (present scope.version kind) (allowed scope kind) next at
+    follow_operand : (kind : Operand) (next : ℕ → Plan) (at : ℕ)
+        → follow (operand_plan scope kind next) file at ≡ on (operand_at scope kind file at) (λ n behind. follow (next n) file behind)
+    follow_operand kind next at = follow_maybe (present scope.version kind) (allowed scope kind) next at
 
-    follow-operands : (kinds : List Operand) (from : Cursor) (j : List ℕ → Instr)
-        → follow (operandsPlan scope kinds (λ ns. k (j ns))) file from.at
-        ≡ after (instr (operandsAt scope kinds file from j)) (λ i behind. follow (k i) file behind)
-    follow-operands [] from j = refl
-    follow-operands (kind ∷ kinds) from j =
-        follow-operand kind _ from.at
-        ∙ go (operand_at scope kind file from.at) (λ n next. follow-operands kinds next (λ ns. j (n ∷ ns)))
+    follow_operands : (kinds : List Operand) (from : Cursor) (j : List ℕ → Instr)
+        → follow (operands_plan scope kinds (λ ns. k (j ns))) file from.at
+        ≡ after (instr (operands_at scope kinds file from j)) (λ i behind. follow (k i) file behind)
+    follow_operands [] from j = refl
+    follow_operands (kind ∷ kinds) from j =
+        follow_operand kind _ from.at
+        ∙ go (operand_at scope kind file from.at) (λ n next. follow_operands kinds next (λ ns. j (n ∷ ns)))
       where
         go : (r : Read)
-            → ((n : ℕ) (next : Cursor) → follow (operandsPlan scope kinds (λ ns. k (j (n ∷ ns)))) file next.at ≡ after (instr (operandsAt scope kinds file next (λ ns. j (n ∷ ns)))) (λ i behind. follow (k i) file behind))
-            → on r (λ n behind. follow (operandsPlan scope kinds (λ ns. k (j (n ∷ ns)))) file behind)
-            ≡ after (instr (onNumber r (λ n next. operandsAt scope kinds file next (λ ns. j (n ∷ ns))))) (λ i behind. follow (k i) file behind)
+            → ((n : ℕ) (next : Cursor) → follow (operands_plan scope kinds (λ ns. k (j (n ∷ ns)))) file next.at ≡ after (instr (operands_at scope kinds file next (λ ns. j (n ∷ ns)))) (λ i behind. follow (k i) file behind))
+            → on r (λ n behind. follow (operands_plan scope kinds (λ ns. k (j (n ∷ ns)))) file behind)
+            ≡ after (instr (on_number r (λ n next. operands_at scope kinds file next (λ ns. j (n ∷ ns))))) (λ i behind. follow (k i) file behind)
         go (Read.Number n c) more = more n c
         go (Read.Refused q) more = refl
 
     opcode : (r : Read)
-        → on r (λ op behind. follow (operandsPlan scope (operandsOf (rowOf op)) (λ ns. k (make op ns))) file behind)
-        ≡ after (instr (onNumber r (λ op next. operandsAt scope (operandsOf (rowOf op)) file next (make op)))) (λ i behind. follow (k i) file behind)
-    opcode (Read.Number op c) = follow-operands (operandsOf (rowOf op)) c (make op)
+        → on r (λ op behind. follow (operands_plan scope (operands_of (row_of op)) (λ ns. k (make op ns))) file behind)
+        ≡ after (instr (on_number r (λ op next. operands_at scope (operands_of (row_of op)) file next (make op)))) (λ i behind. follow (k i) file behind)
+    opcode (Read.Number op c) = follow_operands (operands_of (row_of op)) c (make op)
     opcode (Read.Refused q) = refl
 
-    follow-instr : (at : ℕ)
-        → follow (instrPlan scope k) file at ≡ after (instr (readInstr scope file at)) (λ i behind. follow (k i) file behind)
+    follow_instr : (at : ℕ)
+        → follow (instr_plan scope k) file at ≡ after (instr (read_instr scope file at)) (λ i behind. follow (k i) file behind)
     unfolding follow
-    follow-instr at = opcode (judged 6 (hasOpcode scope.version) file at)
+    follow_instr at = opcode (judged 6 (has_opcode scope.version) file at)
 
   module _ (objects : ℕ) (k : List ℕ → Plan) where
-    follow-members : (left low : ℕ) (ns : List ℕ) (at : ℕ)
-        → follow (membersPlan left objects low ns k) file at ≡ after (membersFrom left objects file at low ns) (λ set behind. follow (k set) file behind)
-    unfolding follow membersPlan membersFrom
-    follow-members zero low ns at = refl
-    follow-members (suc left) low ns at =
-        go (judged 6 (isMember objects low) file at) (λ n behind. follow-members left (n + 1) (ns ++ n ∷ []) behind)
+    follow_members : (left low : ℕ) (ns : List ℕ) (at : ℕ)
+        → follow (members_plan left objects low ns k) file at ≡ after (members_from left objects file at low ns) (λ set behind. follow (k set) file behind)
+    unfolding follow members_plan members_from
+    follow_members zero low ns at = refl
+    follow_members (suc left) low ns at =
+        go (judged 6 (is_member objects low) file at) (λ n behind. follow_members left (n + 1) (ns ++ n ∷ []) behind)
       where
         go : (r : Read)
-            → ((n behind : ℕ) → follow (membersPlan left objects (n + 1) (ns ++ n ∷ []) k) file behind ≡ after (membersFrom left objects file behind (n + 1) (ns ++ n ∷ [])) (λ set behind. follow (k set) file behind))
-            → on r (λ n behind. follow (membersPlan left objects (n + 1) (ns ++ n ∷ []) k) file behind)
-            ≡ after {A = List ℕ} (elim r [ Read.Number n next ↦ membersFrom left objects file next.at (n + 1) (ns ++ n ∷ []) | Read.Refused q ↦ Parsed.refused q ]) (λ set behind. follow (k set) file behind)
+            → ((n behind : ℕ) → follow (members_plan left objects (n + 1) (ns ++ n ∷ []) k) file behind ≡ after (members_from left objects file behind (n + 1) (ns ++ n ∷ [])) (λ set behind. follow (k set) file behind))
+            → on r (λ n behind. follow (members_plan left objects (n + 1) (ns ++ n ∷ []) k) file behind)
+            ≡ after {A = List ℕ} (elim r [ Read.Number n next ↦ members_from left objects file next.at (n + 1) (ns ++ n ∷ []) | Read.Refused q ↦ Parsed.refused q ]) (λ set behind. follow (k set) file behind)
         go (Read.Number n c) more = more n c.at
         go (Read.Refused q) more = refl
 
     counted : (r : Read)
-        → on r (λ n behind. follow (membersPlan n objects 0 [] k) file behind)
-        ≡ after (afterMemberCount objects file r) (λ set behind. follow (k set) file behind)
-    counted (Read.Number n c) = follow-members n 0 [] c.at
+        → on r (λ n behind. follow (members_plan n objects 0 [] k) file behind)
+        ≡ after (after_member_count objects file r) (λ set behind. follow (k set) file behind)
+    counted (Read.Number n c) = follow_members n 0 [] c.at
     counted (Read.Refused q) = refl
 
-    follow-set : (at : ℕ)
-        → follow (setPlan objects k) file at ≡ after (readSet objects file at) (λ set behind. follow (k set) file behind)
+    follow_set : (at : ℕ)
+        → follow (set_plan objects k) file at ≡ after (read_set objects file at) (λ set behind. follow (k set) file behind)
     unfolding follow
-    follow-set at = counted (judged 5 (within 1 objects) file at)
+    follow_set at = counted (judged 5 (within 1 objects) file at)
 
   -- ---- one after the other
 
@@ -152,42 +152,42 @@ module _ (file : List ℕ) where
       (reads : (k : X → Plan) (at : ℕ) → follow (one k) file at ≡ after (read at) (λ x behind. follow (k x) file behind))
       (sequence : Sequence read from) (k : List X → Plan)
     where
-      follow-many : (left : ℕ) (xs : List X) (at : ℕ)
+      follow_many : (left : ℕ) (xs : List X) (at : ℕ)
           → follow (many left one xs k) file at ≡ after (from left at xs) (λ xs behind. follow (k xs) file behind)
       unfolding many
-      follow-many zero xs at = ap (λ r. after r (λ xs behind. follow (k xs) file behind)) (sym (sequence.none at xs))
-      follow-many (suc left) xs at =
+      follow_many zero xs at = ap (λ r. after r (λ xs behind. follow (k xs) file behind)) (sym (sequence.none at xs))
+      follow_many (suc left) xs at =
           reads (λ x. many left one (xs ++ x ∷ []) k) at
-          ∙ (λ i. after (read at) (λ x behind. follow-many left (xs ++ x ∷ []) behind i))
+          ∙ (λ i. after (read at) (λ x behind. follow_many left (xs ++ x ∷ []) behind i))
           ∙ sym (sequence.some left at xs (λ xs behind. follow (k xs) file behind))
 
-  objects-sequence : (version : ℕ) → Sequence (λ at. object (readObject version file at)) (λ left at os. objectsFrom left version file at os)
-  unfolding objectsFrom
-  objects-sequence version = record { none = λ at os. refl; some = λ left at os f. go left os f (readObject version file at) }
+  objects_sequence : (version : ℕ) → Sequence (λ at. object (read_object version file at)) (λ left at os. objects_from left version file at os)
+  unfolding objects_from
+  objects_sequence version = record { none = λ at os. refl; some = λ left at os f. go left os f (read_object version file at) }
     where
       go : (left : ℕ) (os : List Object) (f : List Object → ℕ → Reading) (r : ObjectRead)
-          → after {A = List Object} (elim r [ ObjectRead.Object o next ↦ objectsFrom left version file next.at (os ++ o ∷ []) | ObjectRead.Refused q ↦ Parsed.refused q ]) f
-          ≡ after (object r) (λ o behind. after (objectsFrom left version file behind (os ++ o ∷ [])) f)
+          → after {A = List Object} (elim r [ ObjectRead.Object o next ↦ objects_from left version file next.at (os ++ o ∷ []) | ObjectRead.Refused q ↦ Parsed.refused q ]) f
+          ≡ after (object r) (λ o behind. after (objects_from left version file behind (os ++ o ∷ [])) f)
       go left os f (ObjectRead.Object o c) = refl
       go left os f (ObjectRead.Refused q) = refl
 
-  sets-sequence : (objects : ℕ) → Sequence (readSet objects file) (λ left at ss. setsFrom left objects file at ss)
-  unfolding setsFrom
-  sets-sequence objects = record { none = λ at ss. refl; some = λ left at ss f. go left ss f (readSet objects file at) }
+  sets_sequence : (objects : ℕ) → Sequence (read_set objects file) (λ left at ss. sets_from left objects file at ss)
+  unfolding sets_from
+  sets_sequence objects = record { none = λ at ss. refl; some = λ left at ss f. go left ss f (read_set objects file at) }
     where
       go : (left : ℕ) (ss : List (List ℕ)) (f : List (List ℕ) → ℕ → Reading) (r : Parsed (List ℕ))
-          → after {A = List (List ℕ)} (elim r [ got set next ↦ setsFrom left objects file next (ss ++ set ∷ []) | Parsed.refused q ↦ Parsed.refused q ]) f
-          ≡ after r (λ set behind. after (setsFrom left objects file behind (ss ++ set ∷ [])) f)
+          → after {A = List (List ℕ)} (elim r [ got set next ↦ sets_from left objects file next (ss ++ set ∷ []) | Parsed.refused q ↦ Parsed.refused q ]) f
+          ≡ after r (λ set behind. after (sets_from left objects file behind (ss ++ set ∷ [])) f)
       go left ss f (got set next) = refl
       go left ss f (Parsed.refused q) = refl
 
-  code-sequence : (scope : Scope) → Sequence (λ at. instr (readInstr scope file at)) (λ left at is. codeFrom left scope file at is)
-  unfolding codeFrom
-  code-sequence scope = record { none = λ at is. refl; some = λ left at is f. go left is f (readInstr scope file at) }
+  code_sequence : (scope : Scope) → Sequence (λ at. instr (read_instr scope file at)) (λ left at is. code_from left scope file at is)
+  unfolding code_from
+  code_sequence scope = record { none = λ at is. refl; some = λ left at is f. go left is f (read_instr scope file at) }
     where
       go : (left : ℕ) (is : List Instr) (f : List Instr → ℕ → Reading) (r : InstrRead)
-          → after {A = List Instr} (elim r [ InstrRead.Instr i next ↦ codeFrom left scope file next.at (is ++ i ∷ []) | InstrRead.Refused q ↦ Parsed.refused q ]) f
-          ≡ after (instr r) (λ i behind. after (codeFrom left scope file behind (is ++ i ∷ [])) f)
+          → after {A = List Instr} (elim r [ InstrRead.Instr i next ↦ code_from left scope file next.at (is ++ i ∷ []) | InstrRead.Refused q ↦ Parsed.refused q ]) f
+          ≡ after (instr r) (λ i behind. after (code_from left scope file behind (is ++ i ∷ [])) f)
       go left is f (InstrRead.Instr i c) = refl
       go left is f (InstrRead.Refused q) = refl
 
@@ -195,62 +195,62 @@ module _ (file : List ℕ) where
 
   module _ (version : ℕ) where
     ended : (os : List Object) (ss : List (List ℕ)) (r : Parsed (List Instr))
-        → after r (λ code behind. follow (done (record { objects = os; sets = ss; code = code })) file behind) ≡ afterCode file os ss r
+        → after r (λ code behind. follow (done (record { objects = os; sets = ss; code = code })) file behind) ≡ after_code file os ss r
     unfolding follow
     ended os ss (got code next) = refl
     ended os ss (Parsed.refused q) = refl
 
     coded : (os : List Object) (ss : List (List ℕ)) (r : Read)
-        → on r (λ n behind. follow (many n (instrPlan (scopeFor version os ss n)) [] (λ code. done (record { objects = os; sets = ss; code = code }))) file behind)
-        ≡ afterCodeCount version file os ss r
+        → on r (λ n behind. follow (many n (instr_plan (scope_for version os ss n)) [] (λ code. done (record { objects = os; sets = ss; code = code }))) file behind)
+        ≡ after_code_count version file os ss r
     coded os ss (Read.Number n c) =
-        let scope : Scope = scopeFor version os ss n in
-        follow-many (instrPlan scope) (λ at. instr (readInstr scope file at)) (λ left at is. codeFrom left scope file at is) (follow-instr scope) (code-sequence scope) _ n [] c.at
-        ∙ ended os ss (codeFrom n scope file c.at [])
+        let scope : Scope = scope_for version os ss n in
+        follow_many (instr_plan scope) (λ at. instr (read_instr scope file at)) (λ left at is. code_from left scope file at is) (follow_instr scope) (code_sequence scope) _ n [] c.at
+        ∙ ended os ss (code_from n scope file c.at [])
     coded os ss (Read.Refused q) = refl
 
-    with-sets : (os : List Object) (r : Parsed (List (List ℕ)))
-        → after r (λ ss behind. follow (codePlan version os ss) file behind) ≡ afterSets version file os r
+    with_sets : (os : List Object) (r : Parsed (List (List ℕ)))
+        → after r (λ ss behind. follow (code_plan version os ss) file behind) ≡ after_sets version file os r
     unfolding follow
-    with-sets os (got ss next) = coded os ss (judged 5 (within 1 (mostCode version)) file next)
-    with-sets os (Parsed.refused q) = refl
+    with_sets os (got ss next) = coded os ss (judged 5 (within 1 (most_code version)) file next)
+    with_sets os (Parsed.refused q) = refl
 
-    set-count : (os : List Object) (r : Read)
-        → on r (λ n behind. follow (many n (setPlan (length os)) [] (codePlan version os)) file behind) ≡ afterSetCount version file os r
-    set-count os (Read.Number n c) =
-        follow-many (setPlan (length os)) (readSet (length os) file) (λ left at ss. setsFrom left (length os) file at ss) (follow-set (length os)) (sets-sequence (length os)) _ n [] c.at
-        ∙ with-sets os (setsFrom n (length os) file c.at [])
-    set-count os (Read.Refused q) = refl
+    set_count : (os : List Object) (r : Read)
+        → on r (λ n behind. follow (many n (set_plan (length os)) [] (code_plan version os)) file behind) ≡ after_set_count version file os r
+    set_count os (Read.Number n c) =
+        follow_many (set_plan (length os)) (read_set (length os) file) (λ left at ss. sets_from left (length os) file at ss) (follow_set (length os)) (sets_sequence (length os)) _ n [] c.at
+        ∙ with_sets os (sets_from n (length os) file c.at [])
+    set_count os (Read.Refused q) = refl
 
-    with-objects : (r : Parsed (List Object))
-        → after r (λ os behind. follow (objectsPlan version os) file behind) ≡ afterObjects version file r
+    with_objects : (r : Parsed (List Object))
+        → after r (λ os behind. follow (objects_plan version os) file behind) ≡ after_objects version file r
     unfolding follow
-    with-objects (got os next) = go (hasSets version)
+    with_objects (got os next) = go (has_sets version)
       where
-        go : (b : Bool) → follow (setsPlan b (length os) (codePlan version os)) file next
-            ≡ elim b [ true ↦ afterSetCount version file os (judged 5 (within 0 400) file next) | false ↦ afterSets version file os (got [] next) ]
-        go true = set-count os (judged 5 (within 0 400) file next)
-        go false = with-sets os (got [] next)
-    with-objects (Parsed.refused q) = refl
+        go : (b : Bool) → follow (sets_plan b (length os) (code_plan version os)) file next
+            ≡ elim b [ true ↦ after_set_count version file os (judged 5 (within 0 400) file next) | false ↦ after_sets version file os (got [] next) ]
+        go true = set_count os (judged 5 (within 0 400) file next)
+        go false = with_sets os (got [] next)
+    with_objects (Parsed.refused q) = refl
 
-    object-count : (r : Read)
-        → on r (λ n behind. follow (many n (objectPlan version) [] (objectsPlan version)) file behind) ≡ afterObjectCount version file r
-    object-count (Read.Number n c) =
-        follow-many (objectPlan version) (λ at. object (readObject version file at)) (λ left at os. objectsFrom left version file at os) (follow-object version) (objects-sequence version) _ n [] c.at
-        ∙ with-objects (objectsFrom n version file c.at [])
-    object-count (Read.Refused q) = refl
+    object_count : (r : Read)
+        → on r (λ n behind. follow (many n (object_plan version) [] (objects_plan version)) file behind) ≡ after_object_count version file r
+    object_count (Read.Number n c) =
+        follow_many (object_plan version) (λ at. object (read_object version file at)) (λ left at os. objects_from left version file at os) (follow_object version) (objects_sequence version) _ n [] c.at
+        ∙ with_objects (objects_from n version file c.at [])
+    object_count (Read.Refused q) = refl
 
-    versioned : (r : Read) → on r (λ n behind. follow (filePlan version) file behind) ≡ afterVersion version file r
+    versioned : (r : Read) → on r (λ n behind. follow (file_plan version) file behind) ≡ after_version version file r
     unfolding follow
-    versioned (Read.Number n c) = object-count (judged 5 (within 0 400) file c.at)
+    versioned (Read.Number n c) = object_count (judged 5 (within 0 400) file c.at)
     versioned (Read.Refused q) = refl
 
     -- a file that is not too long is read by its version, and then by the plan
-    pub read-by-plan : length file ≤ longest version
-        → readFile version file ≡ on (judged 4 (within version version) file 0) (λ n behind. follow (filePlan version) file behind)
-    unfolding readFile
-    read-by-plan fits = rw (le-leb (length file) (longest version) fits, readFile)
+    pub read_by_plan : length file ≤ longest version
+        → read_file version file ≡ on (judged 4 (within version version) file 0) (λ n behind. follow (file_plan version) file behind)
+    unfolding read_file
+    read_by_plan fits = rw (le-leb (length file) (longest version) fits, read_file)
 
     -- which is part after part
-    pub read-by-parts : length file ≤ longest version → readFile version file ≡ afterVersion version file (judged 4 (within version version) file 0)
-    read-by-parts fits = read-by-plan fits ∙ versioned (judged 4 (within version version) file 0)
+    pub read_by_parts : length file ≤ longest version → read_file version file ≡ after_version version file (judged 4 (within version version) file 0)
+    read_by_parts fits = read_by_plan fits ∙ versioned (judged 4 (within version version) file 0)

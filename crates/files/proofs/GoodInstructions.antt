@@ -13,14 +13,14 @@ use Rattle.opcodes.specs.declared.Operand.{Operand}
 use Rattle.opcodes.specs.declared.Instr.{Instr}
 use Rattle.opcodes.specs.declared.Instr.TheVariants.{End, Place, Add, Sub, Less, Load8, Load32, Put8, Put32, Write8, Write32, Jump, JumpIf, Alloc, Free, In, Out, Check8, Check32, CheckPut8, CheckPut32}
 use Rattle.opcodes.specs.Table.{parts_of}
-use Rattle.opcodes.specs.Ranges.{Scope, hasGroup, isKind}
-use Rattle.opcodes.specs.View.{Aim, inGlobal, atTemp, Act, View, act, jump, jumpIf, store, check, view}
-use Rattle.opcodes.proofs.Bounds.{kind-below, kind-is}
+use Rattle.opcodes.specs.Ranges.{Scope, has_group, is_kind}
+use Rattle.opcodes.specs.View.{Aim, in_global, at_temp, Act, View, act, jump, jump_if, store, check, view}
+use Rattle.opcodes.proofs.Bounds.{kind_below, kind_is}
 use Rattle.files.specs.declared.Object.{Object}
-use Rattle.files.specs.Program.{Program, kindsOf}
-use Rattle.files.specs.Writing.{goodOperand, goodInstr, scope_of}
+use Rattle.files.specs.Program.{Program, kinds_of}
+use Rattle.files.specs.Writing.{good_operand, good_instr, scope_of}
 use Rattle.files.proofs.Tests.{no_test}
-use Rattle.files.proofs.SpelledInstructions.{GoodParts, good-parts}
+use Rattle.files.proofs.SpelledInstructions.{GoodParts, good_parts_lem}
 
 -- g is an object, and of this kind
 abbrev pub OfKind : Program → (kind g : ℕ) → Type 0
@@ -41,20 +41,20 @@ NamesAct p (Act.output a) = Unit {0}
 
 -- what a store names: a global, or a set
 abbrev pub NamesAim : Program → Aim → (set : ℕ) → Type 0
-NamesAim p (inGlobal g k w) s = OfKind p 0 g
-NamesAim p (atTemp a w) s = s < length p.sets
+NamesAim p (in_global g k w) s = OfKind p 0 g
+NamesAim p (at_temp a w) s = s < length p.sets
 
 abbrev pub Names : Program → View → Type 0
 Names p (act x) = NamesAct p x
 Names p (jump t) = t < length p.code
-Names p (jumpIf a t) = t < length p.code
+Names p (jump_if a t) = t < length p.code
 Names p (store aim b s) = NamesAim p aim s
 Names p (check aim c) = ⊥
 
-of-kind : (p : Program) (kind g : ℕ) → isKind (kindsOf p.objects) kind g ≡ true → OfKind p kind g
-of-kind p kind g h = (
-  omega (arith, kind-below (kindsOf p.objects) kind g h, length-map p.objects (λ o. o.kind)),
-  sym (get_or-map (λ (o : Object). o.kind) p.objects g (record { kind = 0; size = 0; color = 0 })) ∙ kind-is (kindsOf p.objects) kind g h,
+of_kind : (p : Program) (kind g : ℕ) → is_kind (kinds_of p.objects) kind g ≡ true → OfKind p kind g
+of_kind p kind g h = (
+  omega (arith, kind_below (kinds_of p.objects) kind g h, length-map p.objects (λ o. o.kind)),
+  sym (get_or-map (λ (o : Object). o.kind) p.objects g (record { kind = 0; size = 0; color = 0 })) ∙ kind_is (kinds_of p.objects) kind g h,
 )
 
 -- ---- every operand in its range
@@ -62,27 +62,27 @@ of-kind p kind g h = (
 abbrev pub RangedAct : Scope → Act → Type 0
 RangedAct scope Act.end = Unit {0}
 RangedAct scope (Act.set d n) = Unit {0}
-RangedAct scope (Act.place d g) = isKind scope.kinds 0 g ≡ true
+RangedAct scope (Act.place d g) = is_kind scope.kinds 0 g ≡ true
 RangedAct scope (Act.add d a b) = Unit {0}
 RangedAct scope (Act.sub d a b) = Unit {0}
 RangedAct scope (Act.less d a b) = Unit {0}
 RangedAct scope (Act.load d a w) = Unit {0}
-RangedAct scope (Act.alloc d g a) = isKind scope.kinds 1 g ≡ true
+RangedAct scope (Act.alloc d g a) = is_kind scope.kinds 1 g ≡ true
 RangedAct scope (Act.free a) = Unit {0}
 RangedAct scope (Act.input d) = Unit {0}
 RangedAct scope (Act.output a) = Unit {0}
 
 -- an aim, and what is known beside it
 abbrev pub RangedAim : Scope → Aim → (global temporary : Type 0) → Type 0
-RangedAim scope (inGlobal g k w) G T = (isKind scope.kinds 0 g ≡ true) × (leb k 65535 ≡ true) × G
-RangedAim scope (atTemp a w) G T = (ltb a 16 ≡ true) × T
+RangedAim scope (in_global g k w) G T = (is_kind scope.kinds 0 g ≡ true) × (leb k 65535 ≡ true) × G
+RangedAim scope (at_temp a w) G T = (ltb a 16 ≡ true) × T
 
 abbrev pub Ranged : Scope → View → Type 0
 Ranged scope (act x) = RangedAct scope x
 Ranged scope (jump t) = ltb t scope.code ≡ true
-Ranged scope (jumpIf a t) = ltb t scope.code ≡ true
-Ranged scope (store aim b s) = RangedAim scope aim (Unit {0}) (goodOperand scope Operand.Set s ≡ true)
-Ranged scope (check aim c) = RangedAim scope aim (hasGroup scope.version Group.Check ≡ true) (hasGroup scope.version Group.Check ≡ true)
+Ranged scope (jump_if a t) = ltb t scope.code ≡ true
+Ranged scope (store aim b s) = RangedAim scope aim (Unit {0}) (good_operand scope Operand.Set s ≡ true)
+Ranged scope (check aim c) = RangedAim scope aim (has_group scope.version Group.Check ≡ true) (has_group scope.version Group.Check ≡ true)
 
 module _ (scope : Scope) where
   by_parts : (i : Instr) → GoodParts scope (parts_of i) → Ranged scope (view i)
@@ -109,33 +109,33 @@ module _ (scope : Scope) where
   by_parts (CheckPut8 g k c) q = (q.operands.0, q.operands.1.0, q.opcode)
   by_parts (CheckPut32 g k c) q = (q.operands.0, q.operands.1.0, q.opcode)
 
-  pub ranged : (i : Instr) → goodInstr scope i ≡ true → Ranged scope (view i)
-  ranged i h = by_parts i (good-parts scope (parts_of i) h)
+  pub ranged : (i : Instr) → good_instr scope i ≡ true → Ranged scope (view i)
+  ranged i h = by_parts i (good_parts_lem scope (parts_of i) h)
 
 -- ---- version 1
 
 module _ (p : Program) where
-  names-act : (x : Act) → RangedAct (scope_of 1 p) x → NamesAct p x
-  names-act Act.end r = tt
-  names-act (Act.set d n) r = tt
-  names-act (Act.place d g) r = of-kind p 0 g r
-  names-act (Act.add d a b) r = tt
-  names-act (Act.sub d a b) r = tt
-  names-act (Act.less d a b) r = tt
-  names-act (Act.load d a w) r = tt
-  names-act (Act.alloc d g a) r = of-kind p 1 g r
-  names-act (Act.free a) r = tt
-  names-act (Act.input d) r = tt
-  names-act (Act.output a) r = tt
+  names_act : (x : Act) → RangedAct (scope_of 1 p) x → NamesAct p x
+  names_act Act.end r = tt
+  names_act (Act.set d n) r = tt
+  names_act (Act.place d g) r = of_kind p 0 g r
+  names_act (Act.add d a b) r = tt
+  names_act (Act.sub d a b) r = tt
+  names_act (Act.less d a b) r = tt
+  names_act (Act.load d a w) r = tt
+  names_act (Act.alloc d g a) r = of_kind p 1 g r
+  names_act (Act.free a) r = tt
+  names_act (Act.input d) r = tt
+  names_act (Act.output a) r = tt
 
-  names-view : (v : View) → Ranged (scope_of 1 p) v → Names p v
-  names-view (act x) r = names-act x r
-  names-view (jump t) r = ltb-true t (length p.code) r
-  names-view (jumpIf a t) r = ltb-true t (length p.code) r
-  names-view (store (inGlobal g k w) b s) r = of-kind p 0 g r.0
-  names-view (store (atTemp a w) b s) r = ltb-true s (length p.sets) r.1
-  names-view (check (inGlobal g k w) c) r = no_test r.2 refl
-  names-view (check (atTemp a w) c) r = no_test r.1 refl
+  names_view : (v : View) → Ranged (scope_of 1 p) v → Names p v
+  names_view (act x) r = names_act x r
+  names_view (jump t) r = ltb-true t (length p.code) r
+  names_view (jump_if a t) r = ltb-true t (length p.code) r
+  names_view (store (in_global g k w) b s) r = of_kind p 0 g r.0
+  names_view (store (at_temp a w) b s) r = ltb-true s (length p.sets) r.1
+  names_view (check (in_global g k w) c) r = no_test r.2 refl
+  names_view (check (at_temp a w) c) r = no_test r.1 refl
 
-  pub names : (i : Instr) → goodInstr (scope_of 1 p) i ≡ true → Names p (view i)
-  names i h = names-view (view i) (ranged (scope_of 1 p) i h)
+  pub names : (i : Instr) → good_instr (scope_of 1 p) i ≡ true → Names p (view i)
+  names i h = names_view (view i) (ranged (scope_of 1 p) i h)

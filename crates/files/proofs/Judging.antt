@@ -9,34 +9,34 @@ use borrow.Author.Tests.{eqb-true}
 use Rattle.numbers.specs.declared.Cursor.{Cursor}
 use Rattle.numbers.specs.declared.Refusal.{Refusal}
 use Rattle.numbers.specs.declared.Read.{Read}
-use Rattle.numbers.specs.Number.{readNumber}
-use Rattle.numbers.proofs.Laws.{spelled-of-read, read-of-spelled}
-use Rattle.files.specs.Program.{mostCode}
+use Rattle.numbers.specs.Number.{read_number}
+use Rattle.numbers.proofs.Laws.{spelled_of_read, read_of_spelled}
+use Rattle.files.specs.Program.{most_code}
 use Rattle.files.specs.Reading.{refusal, judge, judged}
-use Rattle.files.specs.Writing.{spellIf}
+use Rattle.files.specs.Writing.{spell_if}
 use Rattle.files.specs.Parsing.{cursor}
 
 module _ (why : ℕ) (test : ℕ → Bool) (file : List ℕ) (at : ℕ) where
-  pub not-read : {q : Refusal} → readNumber file at ≡ Read.Refused q → judged why test file at ≡ Read.Refused q
-  not-read e = ap (judge why at test) e
+  pub not_read : {q : Refusal} → read_number file at ≡ Read.Refused q → judged why test file at ≡ Read.Refused q
+  not_read e = ap (judge why at test) e
 
-  pub failed : {n : ℕ} {next : Cursor} → readNumber file at ≡ Read.Number n next → test n ≡ false
+  pub failed : {n : ℕ} {next : Cursor} → read_number file at ≡ Read.Number n next → test n ≡ false
       → judged why test file at ≡ Read.Refused (refusal why at)
   failed e f = ap (judge why at test) e ∙ simp (f, judge)
 
-  pub passed : {n : ℕ} {next : Cursor} → readNumber file at ≡ Read.Number n next → test n ≡ true
+  pub passed : {n : ℕ} {next : Cursor} → read_number file at ≡ Read.Number n next → test n ≡ true
       → judged why test file at ≡ Read.Number n next
   passed e f = ap (judge why at test) e ∙ simp (f, judge)
 
   -- a number that is judged good was read, and passed the test
   pub record Good (n : ℕ) (next : Cursor) : Type 0 where
-    pub read : readNumber file at ≡ Read.Number n next
+    pub read : read_number file at ≡ Read.Number n next
     pub right : test n ≡ true
 
   pub good : {n : ℕ} {next : Cursor} → judged why test file at ≡ Read.Number n next → Good n next
-  good {n} {next} e = go (readNumber file at) refl
+  good {n} {next} e = go (read_number file at) refl
     where
-      kept : (m : ℕ) (c : Cursor) (b : Bool) → test m ≡ b → readNumber file at ≡ Read.Number m c → Good n next
+      kept : (m : ℕ) (c : Cursor) (b : Bool) → test m ≡ b → read_number file at ≡ Read.Number m c → Good n next
       kept m c true t r =
           let same : Read.Number m c ≡ Read.Number n next = sym (passed r t) ∙ e in
           let left : m ≡ n = cc in
@@ -47,10 +47,10 @@ module _ (why : ℕ) (test : ℕ → Bool) (file : List ℕ) (at : ℕ) where
           let z : ◌≡◌ {A = ℕ} 0 1 = cc in
           absurd (omega arith)
 
-      go : (r : Read) → readNumber file at ≡ r → Good n next
+      go : (r : Read) → read_number file at ≡ r → Good n next
       go (Read.Number m c) r = kept m c (test m) refl r
       go (Read.Refused q) r =
-          let clash : Read.Refused q ≡ Read.Number n next = sym (not-read r) ∙ e in
+          let clash : Read.Refused q ≡ Read.Number n next = sym (not_read r) ∙ e in
           let z : ◌≡◌ {A = ℕ} 0 1 = cc in
           absurd (omega arith)
 
@@ -65,37 +65,37 @@ right stands test n = elim stands [ true ↦ test n | false ↦ lib.Dec.eqb n 0 
 -- a field of the value n stands from `at` on, and `next` is behind it
 pub record Field (b : Bool) (test : ℕ → Bool) (file : List ℕ) (at n : ℕ) (next : Cursor) : Type 0 where
   pub good : right b test n ≡ true
-  pub stands : drop at file ≡ spellIf b n ++ drop next.at file
-  pub ends : next.at ≡ at + length (spellIf b n)
+  pub stands : drop at file ≡ spell_if b n ++ drop next.at file
+  pub ends : next.at ≡ at + length (spell_if b n)
   pub small : n < 2 ^ 32
 
 module _ (why : ℕ) (test : ℕ → Bool) (file : List ℕ) (at : ℕ) {n : ℕ} {next : Cursor} where
-  pub field-of-read : (b : Bool) → field b why test file at ≡ Read.Number n next → Field b test file at n next
-  field-of-read true e =
+  pub field_of_read : (b : Bool) → field b why test file at ≡ Read.Number n next → Field b test file at n next
+  field_of_read true e =
       let g = good why test file at e in
-      let s = spelled-of-read file at g.read in
+      let s = spelled_of_read file at g.read in
       record { good = g.right; stands = s.stands; ends = s.ends; small = s.small }
-  field-of-read false e =
+  field_of_read false e =
       let value : n ≡ 0 = cc in
       let behind : next ≡ cursor at = cc in
       rw (value, behind) (record { good = refl; stands = refl; ends = omega arith; small = omega arith })
 
-  pub read-of-field : (b : Bool) → Field b test file at n next → field b why test file at ≡ Read.Number n next
-  read-of-field true f =
-      passed why test file at (read-of-spelled file at (record { stands = f.stands; ends = f.ends; small = f.small })) f.good
-  read-of-field false f =
+  pub read_of_field : (b : Bool) → Field b test file at n next → field b why test file at ≡ Read.Number n next
+  read_of_field true f =
+      passed why test file at (read_of_spelled file at (record { stands = f.stands; ends = f.ends; small = f.small })) f.good
+  read_of_field false f =
       let value : 0 ≡ n = sym (eqb-true n 0 f.good) in
       let behind : at ≡ next.at = omega (arith, f.ends) in
       ap₂ (λ (m a : ℕ). Read.Number m (cursor a)) value behind
 
   -- where the test keeps a number small, the field is small
-  pub field-small : (b : Bool) (k : ℕ) → ((m : ℕ) → test m ≡ true → m ≤ k) → field b why test file at ≡ Read.Number n next → n ≤ k
-  field-small true k h e = h n (good why test file at e).right
-  field-small false k h e = let value : n ≡ 0 = cc in omega arith
+  pub field_small : (b : Bool) (k : ℕ) → ((m : ℕ) → test m ≡ true → m ≤ k) → field b why test file at ≡ Read.Number n next → n ≤ k
+  field_small true k h e = h n (good why test file at e).right
+  field_small false k h e = let value : n ≡ 0 = cc in omega arith
 
-pub most-small : (version : ℕ) → mostCode version ≤ 2000
-most-small version = go (lib.Dec.eqb version 1) refl
+pub most_small : (version : ℕ) → most_code version ≤ 2000
+most_small version = go (lib.Dec.eqb version 1) refl
   where
-    go : (b : Bool) → lib.Dec.eqb version 1 ≡ b → mostCode version ≤ 2000
-    go true e = simp (e, mostCode) (omega arith)
-    go false e = simp (e, mostCode) (omega arith)
+    go : (b : Bool) → lib.Dec.eqb version 1 ≡ b → most_code version ≤ 2000
+    go true e = simp (e, most_code) (omega arith)
+    go false e = simp (e, most_code) (omega arith)

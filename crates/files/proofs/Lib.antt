@@ -1,11 +1,11 @@
 -- What `files` promises, and what carries it.
 --
 -- Any bytes are read as version 1 or 2: the whole program, or the first refusal from left to right
--- (`read_routine`, `read_program`: equations with `held (readFile ..)`).
+-- (`read_routine`, `read_program`: equations with `held (read_file ..)`).
 --
 -- About the definitions, for the crates above: what is written for a good program is read back as exactly
--- that program (`RoundTrip.reads-back`); what is read is a good program and the file is byte for byte its
--- spelling (`RoundTrip.one-spelling`), so a program has one spelling; both for each version by one law,
+-- that program (`RoundTrip.reads_back`); what is read is a good program and the file is byte for byte its
+-- spelling (`RoundTrip.one_spelling`), so a program has one spelling; both for each version by one law,
 -- number by number, object by object, list by list (`SpelledNumbers`, `SpelledObjects`,
 -- `SpelledInstructions`, `SpelledLists`). What an instruction of a good routine names is there
 -- (`GoodInstructions.names`).

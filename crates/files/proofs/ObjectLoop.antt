@@ -12,25 +12,25 @@ use Rattle.files.specs.declared.Object.{Object}
 use Rattle.files.specs.declared.ObjectRead.{ObjectRead}
 use Rattle.files.specs.Held.{filled}
 use Rattle.files.proofs.Filled.{map_more}
-use Rattle.files.specs.Parsing.{Parsed, got, refused, readObject, objectsFrom}
+use Rattle.files.specs.Parsing.{Parsed, got, refused, read_object, objects_from}
 
 -- one turn
 module _ (left version : ℕ) (file : List ℕ) (at : ℕ) (done : List Object) where
-  pub object-more : {o : Object} {next : Cursor} → readObject version file at ≡ ObjectRead.Object o next
-      → objectsFrom (suc left) version file at done ≡ objectsFrom left version file next.at (done ++ o ∷ [])
-  unfolding objectsFrom
-  object-more e =
+  pub object_more : {o : Object} {next : Cursor} → read_object version file at ≡ ObjectRead.Object o next
+      → objects_from (suc left) version file at done ≡ objects_from left version file next.at (done ++ o ∷ [])
+  unfolding objects_from
+  object_more e =
       ap (λ (r : ObjectRead). elim r as (λ _. Parsed (List Object)) [
-        | ObjectRead.Object o next ↦ objectsFrom left version file next.at (done ++ o ∷ [])
+        | ObjectRead.Object o next ↦ objects_from left version file next.at (done ++ o ∷ [])
         | ObjectRead.Refused q ↦ refused q
       ]) e
 
-  pub object-stops : {q : Refusal} → readObject version file at ≡ ObjectRead.Refused q
-      → objectsFrom (suc left) version file at done ≡ refused q
-  unfolding objectsFrom
-  object-stops e =
+  pub object_stops : {q : Refusal} → read_object version file at ≡ ObjectRead.Refused q
+      → objects_from (suc left) version file at done ≡ refused q
+  unfolding objects_from
+  object_stops e =
       ap (λ (r : ObjectRead). elim r as (λ _. Parsed (List Object)) [
-        | ObjectRead.Object o next ↦ objectsFrom left version file next.at (done ++ o ∷ [])
+        | ObjectRead.Object o next ↦ objects_from left version file next.at (done ++ o ∷ [])
         | ObjectRead.Refused q ↦ refused q
       ]) e
 
@@ -38,42 +38,42 @@ pub record Filling (version count : ℕ) (file : List ℕ) (from : ℕ) (kinds s
   pub done : List Object
   pub at_most : i ≤ count
   pub counted : i ≡ length done
-  pub rest : objectsFrom (count - i) version file next done ≡ objectsFrom count version file from []
-  pub held-kinds : kinds ≡ filled 400 0 (map (λ o. o.kind) done)
-  pub held-sizes : sizes ≡ filled 400 0 (map (λ o. o.size) done)
-  pub held-colors : colors ≡ filled 400 0 (map (λ o. o.color) done)
+  pub rest : objects_from (count - i) version file next done ≡ objects_from count version file from []
+  pub held_kinds : kinds ≡ filled 400 0 (map (λ o. o.kind) done)
+  pub held_sizes : sizes ≡ filled 400 0 (map (λ o. o.size) done)
+  pub held_colors : colors ≡ filled 400 0 (map (λ o. o.color) done)
 
 pub start : (version count : ℕ) (file : List ℕ) (from : ℕ) {kinds sizes colors : List ℕ} → kinds ≡ filled 400 0 [] → sizes ≡ filled 400 0 []
     → colors ≡ filled 400 0 [] → Filling version count file from kinds sizes colors from 0
 start version count file from k s c =
-    record { done = []; at_most = omega arith; counted = refl; rest = rw sub-zero; held-kinds = k; held-sizes = s; held-colors = c }
+    record { done = []; at_most = omega arith; counted = refl; rest = rw sub-zero; held_kinds = k; held_sizes = s; held_colors = c }
 
 module _ {version count : ℕ} {file : List ℕ} {from : ℕ} {kinds sizes colors : List ℕ} {next i : ℕ}
     (f : Filling version count file from kinds sizes colors next i) where
   one_left : i < count → count - i ≡ suc (count - (i + 1))
   one_left h = omega arith
 
-  pub more : i < count → count ≤ 400 → {o : Object} {behind : Cursor} → readObject version file next ≡ ObjectRead.Object o behind
+  pub more : i < count → count ≤ 400 → {o : Object} {behind : Cursor} → read_object version file next ≡ ObjectRead.Object o behind
       → Filling version count file from (set kinds i o.kind) (set sizes i o.size) (set colors i o.color) behind.at (i + 1)
   more h few {o} {behind} e =
       record {
         done = f.done ++ o ∷ [];
         at_most = omega arith;
         counted = rw length-append (omega (arith, f.counted));
-        rest = sym (object-more (count - (i + 1)) version file next f.done e) ∙ ap (λ (n : ℕ). objectsFrom n version file next f.done) (sym (one_left h)) ∙ f.rest;
-        held-kinds = map_more 400 0 (λ o. o.kind) f.done o f.held-kinds f.counted (omega arith);
-        held-sizes = map_more 400 0 (λ o. o.size) f.done o f.held-sizes f.counted (omega arith);
-        held-colors = map_more 400 0 (λ o. o.color) f.done o f.held-colors f.counted (omega arith);
+        rest = sym (object_more (count - (i + 1)) version file next f.done e) ∙ ap (λ (n : ℕ). objects_from n version file next f.done) (sym (one_left h)) ∙ f.rest;
+        held_kinds = map_more 400 0 (λ o. o.kind) f.done o f.held_kinds f.counted (omega arith);
+        held_sizes = map_more 400 0 (λ o. o.size) f.done o f.held_sizes f.counted (omega arith);
+        held_colors = map_more 400 0 (λ o. o.color) f.done o f.held_colors f.counted (omega arith);
       }
 
-  pub stops : i < count → {q : Refusal} → readObject version file next ≡ ObjectRead.Refused q
-      → objectsFrom count version file from [] ≡ refused q
+  pub stops : i < count → {q : Refusal} → read_object version file next ≡ ObjectRead.Refused q
+      → objects_from count version file from [] ≡ refused q
   stops h e =
-      sym (ap (λ (n : ℕ). objectsFrom n version file next f.done) (sym (one_left h)) ∙ f.rest)
-      ∙ object-stops (count - (i + 1)) version file next f.done e
+      sym (ap (λ (n : ℕ). objects_from n version file next f.done) (sym (one_left h)) ∙ f.rest)
+      ∙ object_stops (count - (i + 1)) version file next f.done e
 
-  pub ends : count ≤ i → objectsFrom count version file from [] ≡ got f.done next
-  unfolding objectsFrom
+  pub ends : count ≤ i → objects_from count version file from [] ≡ got f.done next
+  unfolding objects_from
   ends h =
       let none : 0 ≡ count - i = omega (arith, f.at_most) in
-      sym f.rest ∙ ap (λ (n : ℕ). objectsFrom n version file next f.done) (sym none)
+      sym f.rest ∙ ap (λ (n : ℕ). objects_from n version file next f.done) (sym none)

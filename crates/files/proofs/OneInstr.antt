@@ -9,42 +9,42 @@ use borrow.Author.Tests.{ltb-true, leb-true, eqb-true}
 use Rattle.numbers.specs.declared.Cursor.{Cursor}
 use Rattle.numbers.specs.declared.Refusal.{Refusal}
 use Rattle.numbers.specs.declared.Read.{Read}
-use Rattle.opcodes.proofs.Bounds.{within-bounds, kind-below}
+use Rattle.opcodes.proofs.Bounds.{within_bounds, kind_below}
 use Rattle.instructions.proofs.Whole.{roof}
 use Rattle.opcodes.specs.declared.Operand.{Operand}
 use Rattle.opcodes.specs.declared.Row.{Row}
 use Rattle.opcodes.specs.declared.Instr.{Instr}
 use Rattle.opcodes.specs.declared.Scope as declared
 use Rattle.files.specs.declared.InstrRead.{InstrRead}
-use Rattle.opcodes.specs.Table.{rowOf, operandsOf, make}
-use Rattle.opcodes.specs.Ranges.{Scope, hasSets, present, allowed, hasOpcode, scopeOver}
+use Rattle.opcodes.specs.Table.{row_of, operands_of, make}
+use Rattle.opcodes.specs.Ranges.{Scope, has_sets, present, allowed, has_opcode, scope_over}
 use Rattle.files.specs.Reading.{judged}
 use Rattle.files.specs.Inside.{Small}
-use Rattle.files.proofs.Judging.{Field, right, field-of-read}
-use Rattle.files.specs.Parsing.{onNumber, operand_at, operandsAt, readInstr}
+use Rattle.files.proofs.Judging.{Field, right, field_of_read}
+use Rattle.files.specs.Parsing.{on_number, operand_at, operands_at, read_instr}
 
 module _ (scope : Scope) (file : List ℕ) where
   abbrev behind : (op : ℕ) → Cursor → InstrRead
-  behind op next = operandsAt scope (operandsOf (rowOf op)) file next (make op)
+  behind op next = operands_at scope (operands_of (row_of op)) file next (make op)
 
-  pub no-opcode : (at : ℕ) {q : Refusal} → judged 6 (hasOpcode scope.version) file at ≡ Read.Refused q → readInstr scope file at ≡ InstrRead.Refused q
-  no-opcode at e = ap (λ (r : Read). onNumber r behind) e
+  pub no_opcode : (at : ℕ) {q : Refusal} → judged 6 (has_opcode scope.version) file at ≡ Read.Refused q → read_instr scope file at ≡ InstrRead.Refused q
+  no_opcode at e = ap (λ (r : Read). on_number r behind) e
 
-  pub an-opcode : (at : ℕ) {op : ℕ} {past : Cursor} → judged 6 (hasOpcode scope.version) file at ≡ Read.Number op past
-      → readInstr scope file at ≡ operandsAt scope (operandsOf (rowOf op)) file past (make op)
-  an-opcode at e = ap (λ (r : Read). onNumber r behind) e
+  pub an_opcode : (at : ℕ) {op : ℕ} {past : Cursor} → judged 6 (has_opcode scope.version) file at ≡ Read.Number op past
+      → read_instr scope file at ≡ operands_at scope (operands_of (row_of op)) file past (make op)
+  an_opcode at e = ap (λ (r : Read). on_number r behind) e
 
   -- the first of the operands that are left, and those behind it
   module _ (kind : Operand) (kinds : List Operand) (from : Cursor) (k : List ℕ → Instr) where
     abbrev left : ℕ → Cursor → InstrRead
-    left n next = operandsAt scope kinds file next (λ ns. k (n ∷ ns))
+    left n next = operands_at scope kinds file next (λ ns. k (n ∷ ns))
 
-    pub no_operand : {q : Refusal} → operand_at scope kind file from.at ≡ Read.Refused q → operandsAt scope (kind ∷ kinds) file from k ≡ InstrRead.Refused q
-    no_operand e = ap (λ (r : Read). onNumber r left) e
+    pub no_operand : {q : Refusal} → operand_at scope kind file from.at ≡ Read.Refused q → operands_at scope (kind ∷ kinds) file from k ≡ InstrRead.Refused q
+    no_operand e = ap (λ (r : Read). on_number r left) e
 
-    pub an-operand : {n : ℕ} {next : Cursor} → operand_at scope kind file from.at ≡ Read.Number n next
-        → operandsAt scope (kind ∷ kinds) file from k ≡ operandsAt scope kinds file next (λ ns. k (n ∷ ns))
-    an-operand e = ap (λ (r : Read). onNumber r left) e
+    pub an_operand : {n : ℕ} {next : Cursor} → operand_at scope kind file from.at ≡ Read.Number n next
+        → operands_at scope (kind ∷ kinds) file from k ≡ operands_at scope kinds file next (λ ns. k (n ∷ ns))
+    an_operand e = ap (λ (r : Read). on_number r left) e
 
 -- an operand that was read by a row that is known
 pub by_row : {row known : Row} → row ≡ known → (kind : Row → Operand) (scope : Scope) (file : List ℕ) (at : ℕ) {r is : Read}
@@ -53,25 +53,25 @@ by_row e kind scope file at p q = sym (ap (λ (row : Row). operand_at scope (kin
 
 -- ---- what a number of an operand's kind lies below
 
-right-small : (b : Bool) (test : ℕ → Bool) (k n : ℕ) → ((m : ℕ) → test m ≡ true → m ≤ k) → right b test n ≡ true → n ≤ k
-right-small true test k n h e = h n e
-right-small false test k n h e = omega (arith, eqb-true n 0 e)
+right_small : (b : Bool) (test : ℕ → Bool) (k n : ℕ) → ((m : ℕ) → test m ≡ true → m ≤ k) → right b test n ≡ true → n ≤ k
+right_small true test k n h e = h n e
+right_small false test k n h e = omega (arith, eqb-true n 0 e)
 
-pub operand-fits : (scope : declared.Scope) (kinds : List ℕ) → Small scope kinds → (kind : Operand) (file : List ℕ) (at : ℕ)
-    {n : ℕ} {next : Cursor} → operand_at (scopeOver scope kinds) kind file at ≡ Read.Number n next → n < roof kind
-operand-fits scope kinds small kind file at {n} {next} e =
-    go kind (field-of-read 6 (allowed (scopeOver scope kinds) kind) file at (present scope.version kind) e)
+pub operand_fits : (scope : declared.Scope) (kinds : List ℕ) → Small scope kinds → (kind : Operand) (file : List ℕ) (at : ℕ)
+    {n : ℕ} {next : Cursor} → operand_at (scope_over scope kinds) kind file at ≡ Read.Number n next → n < roof kind
+operand_fits scope kinds small kind file at {n} {next} e =
+    go kind (field_of_read 6 (allowed (scope_over scope kinds) kind) file at (present scope.version kind) e)
   where
-    go : (k : Operand) → Field (present scope.version k) (allowed (scopeOver scope kinds) k) file at n next → n < roof k
+    go : (k : Operand) → Field (present scope.version k) (allowed (scope_over scope kinds) k) file at n next → n < roof k
     go Operand.None f = omega (arith, eqb-true n 0 f.good)
     go Operand.Temporary f = omega (arith, ltb-true n 16 f.good)
     go Operand.Number f = f.small
-    go Operand.Global f = omega (arith, kind-below kinds 0 n f.good, small.few-objects)
-    go Operand.Site f = omega (arith, kind-below kinds 1 n f.good, small.few-objects)
+    go Operand.Global f = omega (arith, kind_below kinds 0 n f.good, small.few_objects)
+    go Operand.Site f = omega (arith, kind_below kinds 1 n f.good, small.few_objects)
     go Operand.Set f =
-        let s = right-small (hasSets scope.version) (λ m. ltb m scope.sets) 400 n
-        (λ m h. let b = ltb-true m scope.sets h in let t = small.few-sets in omega arith) f.good in
+        let s = right_small (has_sets scope.version) (λ m. ltb m scope.sets) 400 n
+        (λ m h. let b = ltb-true m scope.sets h in let t = small.few_sets in omega arith) f.good in
         omega arith
     go Operand.Offset f = omega (arith, leb-true n 65535 f.good)
-    go Operand.Target f = omega (arith, ltb-true n scope.lines f.good, small.few-lines)
-    go Operand.Color f = let b = within-bounds 2 255 n f.good in omega (arith, b.1)
+    go Operand.Target f = omega (arith, ltb-true n scope.lines f.good, small.few_lines)
+    go Operand.Color f = let b = within_bounds 2 255 n f.good in omega (arith, b.1)

@@ -3,7 +3,7 @@
 --
 -- The file is cut into its six pieces (version, count and objects, sets, count and instructions). Each
 -- piece has its two laws in SpelledNumbers, SpelledObjects, SpelledInstructions and SpelledLists; here they are put side by side, in
--- the order of `readFile`'s stages.
+-- the order of `read_file`'s stages.
 use Prim.Native.Nat.{ℕ, ◌^◌, ◌<◌, ◌≤◌}
 use mathlib.Core.Path.{◌≡◌, refl, sym, ap, ◌∙◌, subst, subst₂}
 use mathlib.Core.List.{List, [], ◌∷◌, ◌++◌, append-nil}
@@ -19,87 +19,87 @@ use Rattle.numbers.specs.Number.{spell}
 use Rattle.files.specs.declared.Object.{Object}
 use Rattle.files.specs.declared.Outcome.{Outcome}
 use Rattle.opcodes.specs.declared.Instr.{Instr}
-use Rattle.opcodes.specs.Ranges.{Scope, hasSets, within}
-use Rattle.files.specs.Program.{Program, mostCode, longest, kindsOf}
-use Rattle.files.specs.Reading.{Reading, whole, judged, readFile}
-use Rattle.files.specs.Writing.{spellFile, spellAll, spellObject, spellSet, spellSets, spellInstr, every, goodObject, rising, goodSet, goodSets, goodInstr, goodProgram, scope_of, both, Says}
-use Rattle.files.proofs.Following.{read-by-parts}
-use Rattle.files.proofs.SpelledNumbers.{Stands, stands-nil, stands-append, stands-split, Judged, judged-of-read, read-of-judged}
-use Rattle.opcodes.proofs.Bounds.{within-bounds, within-true}
-use Rattle.files.proofs.Tests.{both_true, both_left, both_right, every-at}
+use Rattle.opcodes.specs.Ranges.{Scope, has_sets, within}
+use Rattle.files.specs.Program.{Program, most_code, longest, kinds_of}
+use Rattle.files.specs.Reading.{Reading, whole, judged, read_file}
+use Rattle.files.specs.Writing.{spell_file, spell_all, spell_object, spell_set, spell_sets, spell_instr, every, good_object, rising, good_set, good_sets, good_instr, good_program, scope_of, both, Says}
+use Rattle.files.proofs.Following.{read_by_parts}
+use Rattle.files.proofs.SpelledNumbers.{Stands, stands_nil, stands_append, stands_split, Judged, judged_of_read, read_of_judged}
+use Rattle.opcodes.proofs.Bounds.{within_bounds, within_true}
+use Rattle.files.proofs.Tests.{both_true, both_left, both_right, every_at}
 use Rattle.files.proofs.SpelledInstructions.{Bounded}
-use Rattle.files.proofs.SpelledLists.{objects-of-read, read-of-objects, sets-of-read, read-of-sets, code-of-read, read-of-code}
-use Rattle.files.specs.Parsing.{Parsed, got, afterVersion, afterObjectCount, afterObjects, afterSetCount, afterSets, afterCodeCount, afterCode, objectsFrom, setsFrom, codeFrom}
+use Rattle.files.proofs.SpelledLists.{objects_of_read, read_of_objects, sets_of_read, read_of_sets, code_of_read, read_of_code}
+use Rattle.files.specs.Parsing.{Parsed, got, after_version, after_object_count, after_objects, after_set_count, after_sets, after_code_count, after_code, objects_from, sets_from, code_from}
 
 -- ---- what a good program says, piece by piece
 
 pub record Good (version : ℕ) (p : Program) : Type 0 where
-  pub objects-most : length p.objects ≤ 400
-  pub objects : every (goodObject version) p.objects ≡ true
-  pub sets : goodSets (hasSets version) (length p.objects) p.sets ≡ true
-  pub code-most : within 1 (mostCode version) (length p.code) ≡ true
-  pub code : every (goodInstr (scope_of version p)) p.code ≡ true
-  pub short : length (spellFile version p) ≤ longest version
+  pub objects_most : length p.objects ≤ 400
+  pub objects : every (good_object version) p.objects ≡ true
+  pub sets : good_sets (has_sets version) (length p.objects) p.sets ≡ true
+  pub code_most : within 1 (most_code version) (length p.code) ≡ true
+  pub code : every (good_instr (scope_of version p)) p.code ≡ true
+  pub short : length (spell_file version p) ≤ longest version
 
 module _ (version : ℕ) (p : Program) where
   abbrev os : Bool
-  os = every (goodObject version) p.objects
+  os = every (good_object version) p.objects
 
   abbrev ss : Bool
-  ss = goodSets (hasSets version) (length p.objects) p.sets
+  ss = good_sets (has_sets version) (length p.objects) p.sets
 
   abbrev cs : Bool
-  cs = within 1 (mostCode version) (length p.code)
+  cs = within 1 (most_code version) (length p.code)
 
   abbrev is : Bool
-  is = every (goodInstr (scope_of version p)) p.code
+  is = every (good_instr (scope_of version p)) p.code
 
   abbrev ls : Bool
-  ls = leb (length (spellFile version p)) (longest version)
+  ls = leb (length (spell_file version p)) (longest version)
 
   abbrev fs : Bool
   fs = leb (length p.objects) 400
 
-  pub good_of : goodProgram version p ≡ true → Good version p
-  unfolding goodProgram
+  pub good_of : good_program version p ≡ true → Good version p
+  unfolding good_program
   good_of g =
       let g₁ : both os (both ss (both cs (both is ls))) ≡ true = both_right fs (both os (both ss (both cs (both is ls)))) g in
       let g₂ : both ss (both cs (both is ls)) ≡ true = both_right os (both ss (both cs (both is ls))) g₁ in
       let g₃ : both cs (both is ls) ≡ true = both_right ss (both cs (both is ls)) g₂ in
       let g₄ : both is ls ≡ true = both_right cs (both is ls) g₃ in
       record {
-        objects-most = leb-true (length p.objects) 400 (both_left fs (both os (both ss (both cs (both is ls)))) g);
+        objects_most = leb-true (length p.objects) 400 (both_left fs (both os (both ss (both cs (both is ls)))) g);
         objects = both_left os (both ss (both cs (both is ls))) g₁;
         sets = both_left ss (both cs (both is ls)) g₂;
-        code-most = both_left cs (both is ls) g₃;
+        code_most = both_left cs (both is ls) g₃;
         code = both_left is ls g₄;
-        short = leb-true (length (spellFile version p)) (longest version) (both_right is ls g₄);
+        short = leb-true (length (spell_file version p)) (longest version) (both_right is ls g₄);
       }
 
-  pub good-from : Good version p → goodProgram version p ≡ true
-  unfolding goodProgram
-  good-from g =
-      both_true fs _ (le-leb (length p.objects) 400 g.objects-most)
+  pub good_from : Good version p → good_program version p ≡ true
+  unfolding good_program
+  good_from g =
+      both_true fs _ (le-leb (length p.objects) 400 g.objects_most)
       (both_true os _ g.objects
       (both_true ss _ g.sets
-      (both_true cs _ g.code-most
-      (both_true is ls g.code (le-leb (length (spellFile version p)) (longest version) g.short)))))
+      (both_true cs _ g.code_most
+      (both_true is ls g.code (le-leb (length (spell_file version p)) (longest version) g.short)))))
 
 -- the code and the sets of a good program of version 1
 module _ (p : Program) (good : Good 1 p) where
-  pub lines-bounds : (1 ≤ length p.code) × (length p.code ≤ 1000)
-  lines-bounds = within-bounds 1 1000 (length p.code) good.code-most
+  pub lines_bounds : (1 ≤ length p.code) × (length p.code ≤ 1000)
+  lines_bounds = within_bounds 1 1000 (length p.code) good.code_most
 
-  pub set-good : (s : ℕ) → s < length p.sets → goodSet (length p.objects) (get_or p.sets s []) ≡ true
-  set-good s l =
-      every-at (goodSet (length p.objects)) p.sets [] s
-      (both_right (leb (length p.sets) 400) (every (goodSet (length p.objects)) p.sets) good.sets) l
+  pub set_good : (s : ℕ) → s < length p.sets → good_set (length p.objects) (get_or p.sets s []) ≡ true
+  set_good s l =
+      every_at (good_set (length p.objects)) p.sets [] s
+      (both_right (leb (length p.sets) 400) (every (good_set (length p.objects)) p.sets) good.sets) l
 
-  pub set-some : (s : ℕ) → s < length p.sets → 1 ≤ length (get_or p.sets s [])
-  set-some s l =
+  pub set_some : (s : ℕ) → s < length p.sets → 1 ≤ length (get_or p.sets s [])
+  set_some s l =
       let set : List ℕ = get_or p.sets s [] in
-      (within-bounds 1 (length p.objects) (length set)
-      (both_left (within 1 (length p.objects) (length set)) (rising (length p.objects) 0 set) (set-good s l))).0
+      (within_bounds 1 (length p.objects) (length set)
+      (both_left (within 1 (length p.objects) (length set)) (rising (length p.objects) 0 set) (set_good s l))).0
 
 -- ---- what is read is what is spelled
 
@@ -112,23 +112,23 @@ record Pieces (version : ℕ) (file : List ℕ) (p : Program) : Type 0 where
   e : ℕ
   versioned : Stands file 0 (spell version) a
   counted : Stands file a (spell (length p.objects)) b
-  objects : Stands file b (spellAll (spellObject version) p.objects) c
-  sets : Stands file c (spellSets (hasSets version) p.sets) d
+  objects : Stands file b (spell_all (spell_object version) p.objects) c
+  sets : Stands file c (spell_sets (has_sets version) p.sets) d
   lines : Stands file d (spell (length p.code)) e
-  code : Stands file e (spellAll (spellInstr version) p.code) (length file)
+  code : Stands file e (spell_all (spell_instr version) p.code) (length file)
 
-spelled : (version : ℕ) (file : List ℕ) (p : Program) → Pieces version file p → spellFile version p ≡ file
-unfolding spellFile
+spelled : (version : ℕ) (file : List ℕ) (p : Program) → Pieces version file p → spell_file version p ≡ file
+unfolding spell_file
 spelled version file p s =
-    let all = stands-append _ _ s.versioned (stands-append _ _ s.counted (stands-append _ _ s.objects (stands-append _ _ s.sets (stands-append _ _ s.lines s.code)))) in
-    sym (append-nil (spellFile version p)) ∙ ap (λ (l : List ℕ). spellFile version p ++ l) (sym (drop-length file)) ∙ sym all.stands
+    let all = stands_append _ _ s.versioned (stands_append _ _ s.counted (stands_append _ _ s.objects (stands_append _ _ s.sets (stands_append _ _ s.lines s.code)))) in
+    sym (append-nil (spell_file version p)) ∙ ap (λ (l : List ℕ). spell_file version p ++ l) (sym (drop-length file)) ∙ sym all.stands
 
 module _ (version : ℕ) (file : List ℕ) (p : Program) (fits : length file ≤ longest version) where
   Right : Type 0
   Right = Says version file p
 
-  abbrev scopeFor : List Object → List (List ℕ) → ℕ → Scope
-  scopeFor objects sets n = record { version = version; kinds = kindsOf objects; sets = length sets; code = n }
+  abbrev scope_for : List Object → List (List ℕ) → ℕ → Scope
+  scope_for objects sets n = record { version = version; kinds = kinds_of objects; sets = length sets; code = n }
 
   -- the stages from the last to the first, each with what stands before it
   record Before (objects : List Object) (sets : List (List ℕ)) (d : ℕ) : Type 0 where
@@ -137,16 +137,16 @@ module _ (version : ℕ) (file : List ℕ) (p : Program) (fits : length file ≤
     c : ℕ
     versioned : Stands file 0 (spell version) a
     counted : Stands file a (spell (length objects)) b
-    stood : Stands file b (spellAll (spellObject version) objects) c
-    listed : Stands file c (spellSets (hasSets version) sets) d
+    stood : Stands file b (spell_all (spell_object version) objects) c
+    listed : Stands file c (spell_sets (has_sets version) sets) d
     few : length objects ≤ 400
-    fine : every (goodObject version) objects ≡ true
-    fine-sets : goodSets (hasSets version) (length objects) sets ≡ true
+    fine : every (good_object version) objects ≡ true
+    fine_sets : good_sets (has_sets version) (length objects) sets ≡ true
 
   ended : (objects : List Object) (sets : List (List ℕ)) (d e n : ℕ) → Before objects sets d
-      → Judged file d (within 1 (mostCode version)) n e
-      → (r : Parsed (List Instr)) → codeFrom n (scopeFor objects sets n) file e [] ≡ r
-      → afterCode file objects sets r ≡ whole p → Right
+      → Judged file d (within 1 (most_code version)) n e
+      → (r : Parsed (List Instr)) → code_from n (scope_for objects sets n) file e [] ≡ r
+      → after_code file objects sets r ≡ whole p → Right
   unfolding Right
   ended objects sets d e n before j (got code next) r w = go (eqb next (length file)) refl w
     where
@@ -156,7 +156,7 @@ module _ (version : ℕ) (file : List ℕ) (p : Program) (fits : length file ≤
       go true q w =
           let made : record { objects = objects; sets = sets; code = code } ≡ p = cc in
           let last : next ≡ length file = eqb-true next (length file) q in
-          let s = code-of-read n (scopeFor objects sets n) file e next code r in
+          let s = code_of_read n (scope_for objects sets n) file e next code r in
           let long : length code ≡ n = ap length s.whole ∙ s.number in
           let pieces : Pieces version file (record { objects = objects; sets = sets; code = code }) =
           record {
@@ -170,19 +170,19 @@ module _ (version : ℕ) (file : List ℕ) (p : Program) (fits : length file ≤
             objects = before.stood;
             sets = before.listed;
             lines = rw long j.stood;
-            code = subst₂ (λ (l : List Instr) (m : ℕ). Stands file e (spellAll (spellInstr version) l) m) (sym s.whole) last s.stood;
+            code = subst₂ (λ (l : List Instr) (m : ℕ). Stands file e (spell_all (spell_instr version) l) m) (sym s.whole) last s.stood;
           } in
-          let bytes : spellFile version (record { objects = objects; sets = sets; code = code }) ≡ file = spelled version file _ pieces in
+          let bytes : spell_file version (record { objects = objects; sets = sets; code = code }) ≡ file = spelled version file _ pieces in
           subst (λ (x : Program). Says version file x) made
           (record {
             good =
-                good-from version (record { objects = objects; sets = sets; code = code })
+                good_from version (record { objects = objects; sets = sets; code = code })
                 (record {
-                  objects-most = before.few;
+                  objects_most = before.few;
                   objects = before.fine;
-                  sets = before.fine-sets;
-                  code-most = rw long j.passes;
-                  code = subst₂ (λ (l : List Instr) (m : ℕ). every (goodInstr (scopeFor objects sets m)) l ≡ true) (sym s.whole) (sym long) s.passes;
+                  sets = before.fine_sets;
+                  code_most = rw long j.passes;
+                  code = subst₂ (λ (l : List Instr) (m : ℕ). every (good_instr (scope_for objects sets m)) l ≡ true) (sym s.whole) (sym long) s.passes;
                   short = rw bytes fits;
                 });
             bytes = bytes;
@@ -191,9 +191,9 @@ module _ (version : ℕ) (file : List ℕ) (p : Program) (fits : length file ≤
   ended objects sets d e n before j (Parsed.refused q) r w = let z : ◌≡◌ {A = ℕ} 0 1 = cc in absurd (omega arith)
 
   coded : (objects : List Object) (sets : List (List ℕ)) (d : ℕ) → Before objects sets d
-      → (r : Read) → judged 5 (within 1 (mostCode version)) file d ≡ r → afterCodeCount version file objects sets r ≡ whole p → Right
+      → (r : Read) → judged 5 (within 1 (most_code version)) file d ≡ r → after_code_count version file objects sets r ≡ whole p → Right
   coded objects sets d before (Read.Number n c) r w =
-      ended objects sets d c.at n before (judged-of-read 5 _ file d r) (codeFrom n (scopeFor objects sets n) file c.at []) refl w
+      ended objects sets d c.at n before (judged_of_read 5 _ file d r) (code_from n (scope_for objects sets n) file c.at []) refl w
   coded objects sets d before (Read.Refused q) r w = let z : ◌≡◌ {A = ℕ} 0 1 = cc in absurd (omega arith)
 
   record Early (objects : List Object) (c : ℕ) : Type 0 where
@@ -201,24 +201,24 @@ module _ (version : ℕ) (file : List ℕ) (p : Program) (fits : length file ≤
     b : ℕ
     versioned : Stands file 0 (spell version) a
     counted : Stands file a (spell (length objects)) b
-    stood : Stands file b (spellAll (spellObject version) objects) c
+    stood : Stands file b (spell_all (spell_object version) objects) c
     few : length objects ≤ 400
-    fine : every (goodObject version) objects ≡ true
+    fine : every (good_object version) objects ≡ true
 
-  with-sets : (objects : List Object) (c : ℕ) → hasSets version ≡ true → Early objects c
-      → (r : Read) → judged 5 (within 0 400) file c ≡ r → afterSetCount version file objects r ≡ whole p → Right
-  with-sets objects c has early (Read.Number n k) r w = go (setsFrom n (length objects) file k.at []) refl w
+  with_sets : (objects : List Object) (c : ℕ) → has_sets version ≡ true → Early objects c
+      → (r : Read) → judged 5 (within 0 400) file c ≡ r → after_set_count version file objects r ≡ whole p → Right
+  with_sets objects c has early (Read.Number n k) r w = go (sets_from n (length objects) file k.at []) refl w
     where
-      go : (s : Parsed (List (List ℕ))) → setsFrom n (length objects) file k.at [] ≡ s → afterSets version file objects s ≡ whole p → Right
+      go : (s : Parsed (List (List ℕ))) → sets_from n (length objects) file k.at [] ≡ s → after_sets version file objects s ≡ whole p → Right
       go (got sets next) s w =
-          let j = judged-of-read 5 (within 0 400) file c r in
-          let m = sets-of-read n (length objects) file k.at next sets s in
+          let j = judged_of_read 5 (within 0 400) file c r in
+          let m = sets_of_read n (length objects) file k.at next sets s in
           let long : length sets ≡ n = ap length m.whole ∙ m.number in
-          let listed : Stands file c (spell (length sets) ++ spellAll spellSet sets) next =
-          stands-append {mid = k.at} (spell (length sets)) (spellAll spellSet sets) (rw long j.stood) (subst (λ (l : List (List ℕ)). Stands file k.at (spellAll spellSet l) next) (sym m.whole) m.stood) in
-          let fine-sets : both (leb (length sets) 400) (every (goodSet (length objects)) sets) ≡ true =
-          both_true _ _ (le-leb (length sets) 400 (omega (arith, (within-bounds 0 400 n j.passes).1)))
-          (subst (λ (l : List (List ℕ)). every (goodSet (length objects)) l ≡ true) (sym m.whole) m.passes) in
+          let listed : Stands file c (spell (length sets) ++ spell_all spell_set sets) next =
+          stands_append {mid = k.at} (spell (length sets)) (spell_all spell_set sets) (rw long j.stood) (subst (λ (l : List (List ℕ)). Stands file k.at (spell_all spell_set l) next) (sym m.whole) m.stood) in
+          let fine_sets : both (leb (length sets) 400) (every (good_set (length objects)) sets) ≡ true =
+          both_true _ _ (le-leb (length sets) 400 (omega (arith, (within_bounds 0 400 n j.passes).1)))
+          (subst (λ (l : List (List ℕ)). every (good_set (length objects)) l ≡ true) (sym m.whole) m.passes) in
           coded objects sets next
           (record {
             a = early.a;
@@ -227,17 +227,17 @@ module _ (version : ℕ) (file : List ℕ) (p : Program) (fits : length file ≤
             versioned = early.versioned;
             counted = early.counted;
             stood = early.stood;
-            listed = subst (λ (t : Bool). Stands file c (spellSets t sets) next) (sym has) listed;
+            listed = subst (λ (t : Bool). Stands file c (spell_sets t sets) next) (sym has) listed;
             few = early.few;
             fine = early.fine;
-            fine-sets = subst (λ (t : Bool). goodSets t (length objects) sets ≡ true) (sym has) fine-sets;
-          }) (judged 5 (within 1 (mostCode version)) file next) refl w
+            fine_sets = subst (λ (t : Bool). good_sets t (length objects) sets ≡ true) (sym has) fine_sets;
+          }) (judged 5 (within 1 (most_code version)) file next) refl w
       go (Parsed.refused q) s w = let z : ◌≡◌ {A = ℕ} 0 1 = cc in absurd (omega arith)
-  with-sets objects c has early (Read.Refused q) r w = let z : ◌≡◌ {A = ℕ} 0 1 = cc in absurd (omega arith)
+  with_sets objects c has early (Read.Refused q) r w = let z : ◌≡◌ {A = ℕ} 0 1 = cc in absurd (omega arith)
 
-  no-sets : (objects : List Object) (c : ℕ) → hasSets version ≡ false → Early objects c
-      → afterSets version file objects (got [] c) ≡ whole p → Right
-  no-sets objects c has early w =
+  no_sets_lem : (objects : List Object) (c : ℕ) → has_sets version ≡ false → Early objects c
+      → after_sets version file objects (got [] c) ≡ whole p → Right
+  no_sets_lem objects c has early w =
       coded objects [] c
       (record {
         a = early.a;
@@ -246,21 +246,21 @@ module _ (version : ℕ) (file : List ℕ) (p : Program) (fits : length file ≤
         versioned = early.versioned;
         counted = early.counted;
         stood = early.stood;
-        listed = subst (λ (t : Bool). Stands file c (spellSets t []) c) (sym has) (stands-nil file c);
+        listed = subst (λ (t : Bool). Stands file c (spell_sets t []) c) (sym has) (stands_nil file c);
         few = early.few;
         fine = early.fine;
-        fine-sets = subst (λ (t : Bool). goodSets t (length objects) [] ≡ true) (sym has) refl;
-      }) (judged 5 (within 1 (mostCode version)) file c) refl w
+        fine_sets = subst (λ (t : Bool). good_sets t (length objects) [] ≡ true) (sym has) refl;
+      }) (judged 5 (within 1 (most_code version)) file c) refl w
 
-  listed : (objects : List Object) (c : ℕ) → Early objects c → (t : Bool) → hasSets version ≡ t
-      → elim t as (λ _. Reading) [ true ↦ afterSetCount version file objects (judged 5 (within 0 400) file c) | false ↦ afterSets version file objects (got [] c) ] ≡ whole p → Right
-  listed objects c early true has w = with-sets objects c has early (judged 5 (within 0 400) file c) refl w
-  listed objects c early false has w = no-sets objects c has early w
+  listed : (objects : List Object) (c : ℕ) → Early objects c → (t : Bool) → has_sets version ≡ t
+      → elim t as (λ _. Reading) [ true ↦ after_set_count version file objects (judged 5 (within 0 400) file c) | false ↦ after_sets version file objects (got [] c) ] ≡ whole p → Right
+  listed objects c early true has w = with_sets objects c has early (judged 5 (within 0 400) file c) refl w
+  listed objects c early false has w = no_sets_lem objects c has early w
 
   told : (a b n : ℕ) → Stands file 0 (spell version) a → Judged file a (within 0 400) n b
-      → (r : Parsed (List Object)) → objectsFrom n version file b [] ≡ r → afterObjects version file r ≡ whole p → Right
+      → (r : Parsed (List Object)) → objects_from n version file b [] ≡ r → after_objects version file r ≡ whole p → Right
   told a b n v j (got objects c) r w =
-      let s = objects-of-read n version file b c objects r in
+      let s = objects_of_read n version file b c objects r in
       let long : length objects ≡ n = ap length s.whole ∙ s.number in
       listed objects c
       (record {
@@ -268,135 +268,135 @@ module _ (version : ℕ) (file : List ℕ) (p : Program) (fits : length file ≤
         b = b;
         versioned = v;
         counted = rw long j.stood;
-        stood = subst (λ (l : List Object). Stands file b (spellAll (spellObject version) l) c) (sym s.whole) s.stood;
-        few = omega (arith, (within-bounds 0 400 n j.passes).1);
-        fine = subst (λ (l : List Object). every (goodObject version) l ≡ true) (sym s.whole) s.passes;
-      }) (hasSets version) refl w
+        stood = subst (λ (l : List Object). Stands file b (spell_all (spell_object version) l) c) (sym s.whole) s.stood;
+        few = omega (arith, (within_bounds 0 400 n j.passes).1);
+        fine = subst (λ (l : List Object). every (good_object version) l ≡ true) (sym s.whole) s.passes;
+      }) (has_sets version) refl w
   told a b n v j (Parsed.refused q) r w = let z : ◌≡◌ {A = ℕ} 0 1 = cc in absurd (omega arith)
 
-  counted : (a : ℕ) → Stands file 0 (spell version) a → (r : Read) → judged 5 (within 0 400) file a ≡ r → afterObjectCount version file r ≡ whole p → Right
-  counted a v (Read.Number n k) r w = told a k.at n v (judged-of-read 5 (within 0 400) file a r) (objectsFrom n version file k.at []) refl w
+  counted : (a : ℕ) → Stands file 0 (spell version) a → (r : Read) → judged 5 (within 0 400) file a ≡ r → after_object_count version file r ≡ whole p → Right
+  counted a v (Read.Number n k) r w = told a k.at n v (judged_of_read 5 (within 0 400) file a r) (objects_from n version file k.at []) refl w
   counted a v (Read.Refused q) r w = let z : ◌≡◌ {A = ℕ} 0 1 = cc in absurd (omega arith)
 
-  versioned : (r : Read) → judged 4 (within version version) file 0 ≡ r → afterVersion version file r ≡ whole p → Right
+  versioned : (r : Read) → judged 4 (within version version) file 0 ≡ r → after_version version file r ≡ whole p → Right
   versioned (Read.Number n k) r w =
-      let j = judged-of-read 4 (within version version) file 0 r in
-      let (low, high) = within-bounds version version n j.passes in
+      let j = judged_of_read 4 (within version version) file 0 r in
+      let (low, high) = within_bounds version version n j.passes in
       let same : n ≡ version = omega arith in
       counted k.at (rw same at j.stood) (judged 5 (within 0 400) file k.at) refl w
   versioned (Read.Refused q) r w = let z : ◌≡◌ {A = ℕ} 0 1 = cc in absurd (omega arith)
 
 -- what is read is a good program, and the file is byte for byte its spelling
-pub one-spelling : (version : ℕ) (file : List ℕ) (p : Program) → readFile version file ≡ whole p → Says version file p
-unfolding readFile Right
-one-spelling version file p e = go (leb (length file) (longest version)) refl
+pub one_spelling : (version : ℕ) (file : List ℕ) (p : Program) → read_file version file ≡ whole p → Says version file p
+unfolding read_file Right
+one_spelling version file p e = go (leb (length file) (longest version)) refl
   where
     go : (t : Bool) → leb (length file) (longest version) ≡ t → Says version file p
     go true q =
         let fits : length file ≤ longest version = leb-true (length file) (longest version) q in
-        versioned version file p fits (judged 4 (within version version) file 0) refl (sym (read-by-parts file version fits) ∙ e)
+        versioned version file p fits (judged 4 (within version version) file 0) refl (sym (read_by_parts file version fits) ∙ e)
     go false q =
-        let long : readFile version file ≡ Reading.refused (record { number = 1; place = 0 }) = rw (q, readFile) in
+        let long : read_file version file ≡ Reading.refused (record { number = 1; place = 0 }) = rw (q, read_file) in
         let z : ◌≡◌ {A = ℕ} 0 1 = cc in
         absurd (omega arith)
 
 -- ---- what is spelled is read
 
-scope-bounded : (version : ℕ) (p : Program) → Good version p → Bounded (scope_of version p)
-scope-bounded version p g =
+scope_bounded : (version : ℕ) (p : Program) → Good version p → Bounded (scope_of version p)
+scope_bounded version p g =
     record {
-      kinds = rw (length-map p.objects (λ o. o.kind)) (omega (arith, g.objects-most));
-      sets = few-sets (hasSets version) g.sets;
-      code = omega (arith, (within-bounds 1 (mostCode version) (length p.code) g.code-most).1, code-few (eqb version 1));
+      kinds = rw (length-map p.objects (λ o. o.kind)) (omega (arith, g.objects_most));
+      sets = few_sets (has_sets version) g.sets;
+      code = omega (arith, (within_bounds 1 (most_code version) (length p.code) g.code_most).1, code_few (eqb version 1));
     }
   where
-    few-sets : (t : Bool) → goodSets t (length p.objects) p.sets ≡ true → length p.sets < 2 ^ 32
-    few-sets true e = omega (arith, leb-true (length p.sets) 400 (both_left (leb (length p.sets) 400) (every (goodSet (length p.objects)) p.sets) e))
-    few-sets false e = omega (arith, eqb-true (length p.sets) 0 e)
+    few_sets : (t : Bool) → good_sets t (length p.objects) p.sets ≡ true → length p.sets < 2 ^ 32
+    few_sets true e = omega (arith, leb-true (length p.sets) 400 (both_left (leb (length p.sets) 400) (every (good_set (length p.objects)) p.sets) e))
+    few_sets false e = omega (arith, eqb-true (length p.sets) 0 e)
 
-    code-few : (t : Bool) → elim t as (λ _. ℕ) [ true ↦ 1000 | false ↦ 2000 ] ≤ 2000
-    code-few true = omega arith
-    code-few false = omega arith
+    code_few : (t : Bool) → elim t as (λ _. ℕ) [ true ↦ 1000 | false ↦ 2000 ] ≤ 2000
+    code_few true = omega arith
+    code_few false = omega arith
 
 module _ (version : ℕ) (small : version < 2 ^ 32) (file : List ℕ) (p : Program) (g : Good version p) (s : Pieces version file p) where
-  read-end : afterCode file p.objects p.sets (got p.code (length file)) ≡ whole p
-  read-end = simp (eq-eqb (length file) (length file) refl, afterCode)
+  read_end : after_code file p.objects p.sets (got p.code (length file)) ≡ whole p
+  read_end = simp (eq-eqb (length file) (length file) refl, after_code)
 
-  read-code : afterSets version file p.objects (got p.sets s.d) ≡ whole p
-  read-code =
-      ap (afterCodeCount version file p.objects p.sets)
-      (read-of-judged 5 (within 1 (mostCode version)) file s.d
-      (record { stood = s.lines; passes = g.code-most; small = (scope-bounded version p g).code }))
-      ∙ ap (afterCode file p.objects p.sets)
-      (read-of-code (scope_of version p) (scope-bounded version p g) file s.e (length file) p.code s.code g.code)
-      ∙ read-end
+  read_code : after_sets version file p.objects (got p.sets s.d) ≡ whole p
+  read_code =
+      ap (after_code_count version file p.objects p.sets)
+      (read_of_judged 5 (within 1 (most_code version)) file s.d
+      (record { stood = s.lines; passes = g.code_most; small = (scope_bounded version p g).code }))
+      ∙ ap (after_code file p.objects p.sets)
+      (read_of_code (scope_of version p) (scope_bounded version p g) file s.e (length file) p.code s.code g.code)
+      ∙ read_end
 
-  read-sets : (t : Bool) → Stands file s.c (spellSets t p.sets) s.d → goodSets t (length p.objects) p.sets ≡ true
+  read_sets : (t : Bool) → Stands file s.c (spell_sets t p.sets) s.d → good_sets t (length p.objects) p.sets ≡ true
       → ◌≡◌ {A = Reading}
-      (elim t [ true ↦ afterSetCount version file p.objects (judged 5 (within 0 400) file s.c) | false ↦ afterSets version file p.objects (got [] s.c) ])
+      (elim t [ true ↦ after_set_count version file p.objects (judged 5 (within 0 400) file s.c) | false ↦ after_sets version file p.objects (got [] s.c) ])
       (whole p)
-  read-sets true stood good =
-      let few : length p.sets ≤ 400 = leb-true (length p.sets) 400 (both_left (leb (length p.sets) 400) (every (goodSet (length p.objects)) p.sets) good) in
-      let (first, rest) = stands-split (spell (length p.sets)) (spellAll spellSet p.sets) stood in
-      ap (afterSetCount version file p.objects)
-      (read-of-judged 5 (within 0 400) file s.c
-      (record { stood = first; passes = within-true 0 400 (length p.sets) (omega arith) few; small = omega arith }))
-      ∙ ap (afterSets version file p.objects)
-      (read-of-sets (length p.objects) (omega (arith, g.objects-most)) file _ s.d p.sets rest
-      (both_right (leb (length p.sets) 400) (every (goodSet (length p.objects)) p.sets) good))
-      ∙ read-code
-  read-sets false stood good =
-      let none : p.sets ≡ [] = no-sets-of p.sets (eqb-true (length p.sets) 0 good) in
+  read_sets true stood good =
+      let few : length p.sets ≤ 400 = leb-true (length p.sets) 400 (both_left (leb (length p.sets) 400) (every (good_set (length p.objects)) p.sets) good) in
+      let (first, rest) = stands_split (spell (length p.sets)) (spell_all spell_set p.sets) stood in
+      ap (after_set_count version file p.objects)
+      (read_of_judged 5 (within 0 400) file s.c
+      (record { stood = first; passes = within_true 0 400 (length p.sets) (omega arith) few; small = omega arith }))
+      ∙ ap (after_sets version file p.objects)
+      (read_of_sets (length p.objects) (omega (arith, g.objects_most)) file _ s.d p.sets rest
+      (both_right (leb (length p.sets) 400) (every (good_set (length p.objects)) p.sets) good))
+      ∙ read_code
+  read_sets false stood good =
+      let none : p.sets ≡ [] = no_sets_of p.sets (eqb-true (length p.sets) 0 good) in
       let here : s.c ≡ s.d = sym (omega (arith, stood.ends)) in
-      ap (λ (l : List (List ℕ)). afterSets version file p.objects (got l s.c)) (sym none)
-      ∙ ap (λ (n : ℕ). afterSets version file p.objects (got p.sets n)) here ∙ read-code
+      ap (λ (l : List (List ℕ)). after_sets version file p.objects (got l s.c)) (sym none)
+      ∙ ap (λ (n : ℕ). after_sets version file p.objects (got p.sets n)) here ∙ read_code
     where
-      no-sets-of : (l : List (List ℕ)) → length l ≡ 0 → l ≡ []
-      no-sets-of [] e = refl
-      no-sets-of (x ∷ xs) e = absurd (omega arith)
+      no_sets_of : (l : List (List ℕ)) → length l ≡ 0 → l ≡ []
+      no_sets_of [] e = refl
+      no_sets_of (x ∷ xs) e = absurd (omega arith)
 
-  read-of-pieces : afterVersion version file (judged 4 (within version version) file 0) ≡ whole p
-  read-of-pieces =
-      ap (afterVersion version file)
-      (read-of-judged 4 (within version version) file 0
-      (record { stood = s.versioned; passes = within-true version version version (omega arith) (omega arith); small = small }))
-      ∙ ap (afterObjectCount version file)
-      (read-of-judged 5 (within 0 400) file s.a
-      (record { stood = s.counted; passes = within-true 0 400 (length p.objects) (omega arith) g.objects-most; small = omega (arith, g.objects-most) }))
-      ∙ ap (afterObjects version file) (read-of-objects version file s.b s.c p.objects s.objects g.objects)
-      ∙ read-sets (hasSets version) s.sets g.sets
+  read_of_pieces : after_version version file (judged 4 (within version version) file 0) ≡ whole p
+  read_of_pieces =
+      ap (after_version version file)
+      (read_of_judged 4 (within version version) file 0
+      (record { stood = s.versioned; passes = within_true version version version (omega arith) (omega arith); small = small }))
+      ∙ ap (after_object_count version file)
+      (read_of_judged 5 (within 0 400) file s.a
+      (record { stood = s.counted; passes = within_true 0 400 (length p.objects) (omega arith) g.objects_most; small = omega (arith, g.objects_most) }))
+      ∙ ap (after_objects version file) (read_of_objects version file s.b s.c p.objects s.objects g.objects)
+      ∙ read_sets (has_sets version) s.sets g.sets
 
 -- the pieces of a spelled program
-pieces_of : (version : ℕ) (p : Program) → Pieces version (spellFile version p) p
-unfolding spellFile
+pieces_of : (version : ℕ) (p : Program) → Pieces version (spell_file version p) p
+unfolding spell_file
 pieces_of version p =
     let v = spell version in
     let n = spell (length p.objects) in
-    let o = spellAll (spellObject version) p.objects in
-    let t = spellSets (hasSets version) p.sets in
+    let o = spell_all (spell_object version) p.objects in
+    let t = spell_sets (has_sets version) p.sets in
     let l = spell (length p.code) in
-    let i = spellAll (spellInstr version) p.code in
+    let i = spell_all (spell_instr version) p.code in
     let file = v ++ (n ++ (o ++ (t ++ (l ++ i)))) in
     let all : Stands file 0 (v ++ (n ++ (o ++ (t ++ (l ++ i))))) (length file) =
     record { stands = sym (ap (λ (x : List ℕ). file ++ x) (drop-length file) ∙ append-nil file); ends = omega arith } in
-    let (s₁, r₁) = stands-split v (n ++ (o ++ (t ++ (l ++ i)))) all in
-    let (s₂, r₂) = stands-split n (o ++ (t ++ (l ++ i))) r₁ in
-    let (s₃, r₃) = stands-split o (t ++ (l ++ i)) r₂ in
-    let (s₄, r₄) = stands-split t (l ++ i) r₃ in
-    let (s₅, s₆) = stands-split l i r₄ in
+    let (s₁, r₁) = stands_split v (n ++ (o ++ (t ++ (l ++ i)))) all in
+    let (s₂, r₂) = stands_split n (o ++ (t ++ (l ++ i))) r₁ in
+    let (s₃, r₃) = stands_split o (t ++ (l ++ i)) r₂ in
+    let (s₄, r₄) = stands_split t (l ++ i) r₃ in
+    let (s₅, s₆) = stands_split l i r₄ in
     record { versioned = s₁; counted = s₂; objects = s₃; sets = s₄; lines = s₅; code = s₆; a = _; b = _; c = _; d = _; e = _ }
 
 -- what is written for a good program is read back as exactly that program
-pub reads-back : (version : ℕ) → version < 2 ^ 32 → (p : Program) → goodProgram version p ≡ true → readFile version (spellFile version p) ≡ whole p
-reads-back version small p e =
+pub reads_back : (version : ℕ) → version < 2 ^ 32 → (p : Program) → good_program version p ≡ true → read_file version (spell_file version p) ≡ whole p
+reads_back version small p e =
     let g : Good version p = good_of version p e in
-    read-by-parts (spellFile version p) version g.short
-    ∙ read-of-pieces version small (spellFile version p) p g (pieces_of version p)
+    read_by_parts (spell_file version p) version g.short
+    ∙ read_of_pieces version small (spell_file version p) p g (pieces_of version p)
 
 -- ---- for those who hold what was read
 
-pub good-read : (version : ℕ) (file : List ℕ) (p : Program) → readFile version file ≡ whole p → Good version p
-good-read version file p e = good_of version p (one-spelling version file p e).good
+pub good_read : (version : ℕ) (file : List ℕ) (p : Program) → read_file version file ≡ whole p → Good version p
+good_read version file p e = good_of version p (one_spelling version file p e).good
 
-pub whole-not-refused : {q : Refusal} → ◌≡◌ {A = Outcome} (Outcome.Refused q) Outcome.Whole → ⊥
-whole-not-refused e = let z : ◌≡◌ {A = ℕ} 0 1 = cc in omega arith
+pub whole_not_refused : {q : Refusal} → ◌≡◌ {A = Outcome} (Outcome.Refused q) Outcome.Whole → ⊥
+whole_not_refused e = let z : ◌≡◌ {A = ℕ} 0 1 = cc in omega arith

@@ -10,21 +10,21 @@ use borrow.Author.Tests.{eqb-true, leb-true, ltb-true}
 use Rattle.numbers.specs.declared.Cursor.{Cursor}
 use Rattle.numbers.specs.declared.Read.{Read}
 use Rattle.numbers.specs.Number.{spell}
-use Rattle.opcodes.proofs.Bounds.{within-bounds, opcode-below, kind-below}
-use Rattle.opcodes.proofs.Operands.{each-then}
-use Rattle.instructions.proofs.Parting.{Blank, numbers-parts, parts-make, make-parts}
+use Rattle.opcodes.proofs.Bounds.{within_bounds, opcode_below, kind_below}
+use Rattle.opcodes.proofs.Operands.{each_then}
+use Rattle.instructions.proofs.Parting.{Blank, numbers_parts, parts_make, make_parts}
 use Rattle.opcodes.specs.declared.Operand.{Operand}
 use Rattle.opcodes.specs.declared.Instr.{Instr}
 use Rattle.files.specs.declared.InstrRead.{InstrRead}
 use Rattle.opcodes.specs.declared.Parts.{Parts}
-use Rattle.opcodes.specs.Table.{rowOf, operandsOf, make, parts_in, numbersOf, parts_of, named, operandsIn, Each}
-use Rattle.opcodes.specs.Ranges.{Scope, present, allowed, hasOpcode}
+use Rattle.opcodes.specs.Table.{row_of, operands_of, make, parts_in, numbers_of, parts_of, named, operands_in, Each}
+use Rattle.opcodes.specs.Ranges.{Scope, present, allowed, has_opcode}
 use Rattle.files.specs.Reading.{judged}
-use Rattle.files.specs.Writing.{spellIf, spellOperands, spellParts, spellInstr, goodOperand, goodOperands, goodParts, goodInstr, both}
-use Rattle.files.proofs.SpelledNumbers.{Stands, stands-nil, stands-append, stands-split, Judged, judged-of-read, read-of-judged, Optional, optional-of-read, read-of-optional}
-use Rattle.files.proofs.OneInstr.{an-opcode, an-operand}
+use Rattle.files.specs.Writing.{spell_if, spell_operands, spell_parts, spell_instr, good_operand, good_operands, good_parts, good_instr, both}
+use Rattle.files.proofs.SpelledNumbers.{Stands, stands_nil, stands_append, stands_split, Judged, judged_of_read, read_of_judged, Optional, optional_of_read, read_of_optional}
+use Rattle.files.proofs.OneInstr.{an_opcode, an_operand}
 use Rattle.files.proofs.Tests.{both_true, both_left, both_right}
-use Rattle.files.specs.Parsing.{cursor, onNumber, operand_at, operandsAt, readInstr}
+use Rattle.files.specs.Parsing.{cursor, on_number, operand_at, operands_at, read_instr}
 
 -- ---- operands
 
@@ -34,46 +34,46 @@ pub record Bounded (scope : Scope) : Type 0 where
   pub sets : scope.sets < 2 ^ 32
   pub code : scope.code < 2 ^ 32
 
-blank-of-good : (scope : Scope) (kind : Operand) (n : ℕ) → goodOperand scope kind n ≡ true → Blank kind n
-blank-of-good scope Operand.None n g = eqb-true n 0 g
-blank-of-good scope Operand.Temporary n g = tt
-blank-of-good scope Operand.Number n g = tt
-blank-of-good scope Operand.Global n g = tt
-blank-of-good scope Operand.Site n g = tt
-blank-of-good scope Operand.Set n g = tt
-blank-of-good scope Operand.Offset n g = tt
-blank-of-good scope Operand.Target n g = tt
-blank-of-good scope Operand.Color n g = tt
+blank_of_good : (scope : Scope) (kind : Operand) (n : ℕ) → good_operand scope kind n ≡ true → Blank kind n
+blank_of_good scope Operand.None n g = eqb-true n 0 g
+blank_of_good scope Operand.Temporary n g = tt
+blank_of_good scope Operand.Number n g = tt
+blank_of_good scope Operand.Global n g = tt
+blank_of_good scope Operand.Site n g = tt
+blank_of_good scope Operand.Set n g = tt
+blank_of_good scope Operand.Offset n g = tt
+blank_of_good scope Operand.Target n g = tt
+blank_of_good scope Operand.Color n g = tt
 
-small-of-allowed : (scope : Scope) → Bounded scope → (kind : Operand) (n : ℕ) → allowed scope kind n ≡ true → n < 2 ^ 32
-small-of-allowed scope b Operand.None n e = omega (arith, eqb-true n 0 e)
-small-of-allowed scope b Operand.Temporary n e = omega (arith, ltb-true n 16 e)
-small-of-allowed scope b Operand.Number n e = omega (arith, leb-true n 4294967295 e)
-small-of-allowed scope b Operand.Global n e = omega (arith, kind-below scope.kinds 0 n e, b.kinds)
-small-of-allowed scope b Operand.Site n e = omega (arith, kind-below scope.kinds 1 n e, b.kinds)
-small-of-allowed scope b Operand.Set n e = omega (arith, ltb-true n scope.sets e)
-small-of-allowed scope b Operand.Offset n e = omega (arith, leb-true n 65535 e)
-small-of-allowed scope b Operand.Target n e = omega (arith, ltb-true n scope.code e)
-small-of-allowed scope b Operand.Color n e = omega (arith, (within-bounds 2 255 n e).1)
+small_of_allowed : (scope : Scope) → Bounded scope → (kind : Operand) (n : ℕ) → allowed scope kind n ≡ true → n < 2 ^ 32
+small_of_allowed scope b Operand.None n e = omega (arith, eqb-true n 0 e)
+small_of_allowed scope b Operand.Temporary n e = omega (arith, ltb-true n 16 e)
+small_of_allowed scope b Operand.Number n e = omega (arith, leb-true n 4294967295 e)
+small_of_allowed scope b Operand.Global n e = omega (arith, kind_below scope.kinds 0 n e, b.kinds)
+small_of_allowed scope b Operand.Site n e = omega (arith, kind_below scope.kinds 1 n e, b.kinds)
+small_of_allowed scope b Operand.Set n e = omega (arith, ltb-true n scope.sets e)
+small_of_allowed scope b Operand.Offset n e = omega (arith, leb-true n 65535 e)
+small_of_allowed scope b Operand.Target n e = omega (arith, ltb-true n scope.code e)
+small_of_allowed scope b Operand.Color n e = omega (arith, (within_bounds 2 255 n e).1)
 
-small-of-good : (scope : Scope) → Bounded scope → (kind : Operand) (n : ℕ) → goodOperand scope kind n ≡ true → n < 2 ^ 32
-small-of-good scope b kind n g = go (present scope.version kind) g
+small_of_good : (scope : Scope) → Bounded scope → (kind : Operand) (n : ℕ) → good_operand scope kind n ≡ true → n < 2 ^ 32
+small_of_good scope b kind n g = go (present scope.version kind) g
   where
     go : (s : Bool) → elim s as (λ _. Bool) [ true ↦ allowed scope kind n | false ↦ eqb n 0 ] ≡ true → n < 2 ^ 32
-    go true g = small-of-allowed scope b kind n g
+    go true g = small_of_allowed scope b kind n g
     go false g = omega (arith, eqb-true n 0 g)
 
 -- ---- an instruction
 
 -- each operand is good
 abbrev pub Good : Scope → Operand → ℕ → Type 0
-Good scope kind n = goodOperand scope kind n ≡ true
+Good scope kind n = good_operand scope kind n ≡ true
 
-pub each-good : (scope : Scope) (os : List (Operand × ℕ)) → goodOperands scope os ≡ true → Each (Good scope) os
-each-good scope [] g = tt
-each-good scope (o ∷ os) g =
-    let this : Bool = goodOperand scope o.0 o.1 in
-    (both_left this (goodOperands scope os) g, each-good scope os (both_right this (goodOperands scope os) g))
+pub each_good : (scope : Scope) (os : List (Operand × ℕ)) → good_operands scope os ≡ true → Each (Good scope) os
+each_good scope [] g = tt
+each_good scope (o ∷ os) g =
+    let this : Bool = good_operand scope o.0 o.1 in
+    (both_left this (good_operands scope os) g, each_good scope os (both_right this (good_operands scope os) g))
 
 module _ (scope : Scope) (file : List ℕ) where
   -- the numbers that were read, one for each kind
@@ -81,108 +81,108 @@ module _ (scope : Scope) (file : List ℕ) where
     numbers : List ℕ
     many : length numbers ≡ length kinds
     made : k numbers ≡ i
-    stood : Stands file at (spellOperands scope.version (named kinds numbers)) next
-    passes : goodOperands scope (named kinds numbers) ≡ true
+    stood : Stands file at (spell_operands scope.version (named kinds numbers)) next
+    passes : good_operands scope (named kinds numbers) ≡ true
 
   found : (kinds : List Operand) (from : Cursor) (k : List ℕ → Instr) (i : Instr) (c : Cursor)
-      → operandsAt scope kinds file from k ≡ InstrRead.Instr i c → Found kinds from.at k i c.at
+      → operands_at scope kinds file from k ≡ InstrRead.Instr i c → Found kinds from.at k i c.at
   found [] from k i c e =
       let made : k [] ≡ i = cc in
       let ends : from ≡ c = cc in
-      record { numbers = []; many = refl; made = made; stood = subst (λ (d : Cursor). Stands file from.at [] d.at) ends (stands-nil file from.at); passes = refl }
+      record { numbers = []; many = refl; made = made; stood = subst (λ (d : Cursor). Stands file from.at [] d.at) ends (stands_nil file from.at); passes = refl }
   found (kind ∷ kinds) from k i c e =
       go (operand_at scope kind file from.at) refl e (λ n next. found kinds next (λ ns. k (n ∷ ns)) i c)
     where
       go : (r : Read) → operand_at scope kind file from.at ≡ r
-          → onNumber r (λ n next. operandsAt scope kinds file next (λ ns. k (n ∷ ns))) ≡ InstrRead.Instr i c
-          → ((n : ℕ) (next : Cursor) → operandsAt scope kinds file next (λ ns. k (n ∷ ns)) ≡ InstrRead.Instr i c → Found kinds next.at (λ ns. k (n ∷ ns)) i c.at)
+          → on_number r (λ n next. operands_at scope kinds file next (λ ns. k (n ∷ ns))) ≡ InstrRead.Instr i c
+          → ((n : ℕ) (next : Cursor) → operands_at scope kinds file next (λ ns. k (n ∷ ns)) ≡ InstrRead.Instr i c → Found kinds next.at (λ ns. k (n ∷ ns)) i c.at)
           → Found (kind ∷ kinds) from.at k i c.at
       go (Read.Number n next) r e more =
-          let o = optional-of-read (present scope.version kind) 6 (allowed scope kind) file from.at r in
+          let o = optional_of_read (present scope.version kind) 6 (allowed scope kind) file from.at r in
           let f = more n next e in
           record {
             numbers = n ∷ f.numbers;
             many = ap suc f.many;
             made = f.made;
-            stood = stands-append _ _ o.stood f.stood;
+            stood = stands_append _ _ o.stood f.stood;
             passes = both_true _ _ o.passes f.passes;
           }
       go (Read.Refused w) r e more = let z : ◌≡◌ {A = ℕ} 0 1 = cc in absurd (omega arith)
 
   Right : ℕ → Instr → ℕ → Type 0
-  Right at i next = Stands file at (spellInstr scope.version i) next × (goodInstr scope i ≡ true)
+  Right at i next = Stands file at (spell_instr scope.version i) next × (good_instr scope i ≡ true)
 
-  found_right : (at op mid next : ℕ) {i : Instr} → Judged file at (hasOpcode scope.version) op mid
-      → Found (operandsOf (rowOf op)) mid (make op) i next → Right at i next
+  found_right : (at op mid next : ℕ) {i : Instr} → Judged file at (has_opcode scope.version) op mid
+      → Found (operands_of (row_of op)) mid (make op) i next → Right at i next
   unfolding Right
   found_right at op mid next o f =
-      let kinds : List Operand = operandsOf (rowOf op) in
-      let same : f.numbers ≡ numbersOf (parts_in op f.numbers) = sym (numbers-parts op f.numbers f.many) in
+      let kinds : List Operand = operands_of (row_of op) in
+      let same : f.numbers ≡ numbers_of (parts_in op f.numbers) = sym (numbers_parts op f.numbers f.many) in
       let back : parts_of (make op f.numbers) ≡ parts_in op f.numbers =
-      parts-make op (opcode-below scope.version op o.passes) f.numbers f.many
-      (each-then (blank-of-good scope) (named kinds f.numbers) (each-good scope (named kinds f.numbers) f.passes)) in
-      subst (λ (j : Instr). Stands file at (spellInstr scope.version j) next × (goodInstr scope j ≡ true)) f.made
-      (subst (λ (p : Parts). Stands file at (spellParts scope.version p) next × (goodParts scope p ≡ true)) (sym back) (
-        stands-append _ _ o.stood (subst (λ (ns : List ℕ). Stands file mid (spellOperands scope.version (named kinds ns)) next) same f.stood),
-        both_true _ _ o.passes (subst (λ (ns : List ℕ). goodOperands scope (named kinds ns) ≡ true) same f.passes),
+      parts_make op (opcode_below scope.version op o.passes) f.numbers f.many
+      (each_then (blank_of_good scope) (named kinds f.numbers) (each_good scope (named kinds f.numbers) f.passes)) in
+      subst (λ (j : Instr). Stands file at (spell_instr scope.version j) next × (good_instr scope j ≡ true)) f.made
+      (subst (λ (p : Parts). Stands file at (spell_parts scope.version p) next × (good_parts scope p ≡ true)) (sym back) (
+        stands_append _ _ o.stood (subst (λ (ns : List ℕ). Stands file mid (spell_operands scope.version (named kinds ns)) next) same f.stood),
+        both_true _ _ o.passes (subst (λ (ns : List ℕ). good_operands scope (named kinds ns) ≡ true) same f.passes),
       ))
 
-  pub instr-of-read : (at : ℕ) {i : Instr} {c : Cursor} → readInstr scope file at ≡ InstrRead.Instr i c
-      → Stands file at (spellInstr scope.version i) c.at × (goodInstr scope i ≡ true)
+  pub instr_of_read : (at : ℕ) {i : Instr} {c : Cursor} → read_instr scope file at ≡ InstrRead.Instr i c
+      → Stands file at (spell_instr scope.version i) c.at × (good_instr scope i ≡ true)
   unfolding Right
-  instr-of-read at {i} {c} e = go (judged 6 (hasOpcode scope.version) file at) refl e
+  instr_of_read at {i} {c} e = go (judged 6 (has_opcode scope.version) file at) refl e
     where
-      go : (r : Read) → judged 6 (hasOpcode scope.version) file at ≡ r
-          → onNumber r (λ op next. operandsAt scope (operandsOf (rowOf op)) file next (make op)) ≡ InstrRead.Instr i c → Right at i c.at
+      go : (r : Read) → judged 6 (has_opcode scope.version) file at ≡ r
+          → on_number r (λ op next. operands_at scope (operands_of (row_of op)) file next (make op)) ≡ InstrRead.Instr i c → Right at i c.at
       go (Read.Number op n) r e =
-          found_right at op n.at c.at (judged-of-read 6 _ file at r) (found (operandsOf (rowOf op)) n (make op) i c e)
+          found_right at op n.at c.at (judged_of_read 6 _ file at r) (found (operands_of (row_of op)) n (make op) i c e)
       go (Read.Refused w) r e = let z : ◌≡◌ {A = ℕ} 0 1 = cc in absurd (omega arith)
 
 -- an operand that stands there and is good is read
-read-of-operand : (scope : Scope) → Bounded scope → (file : List ℕ) (kind : Operand) (at n next : ℕ)
-    → Stands file at (spellIf (present scope.version kind) n) next → goodOperand scope kind n ≡ true
+read_of_operand : (scope : Scope) → Bounded scope → (file : List ℕ) (kind : Operand) (at n next : ℕ)
+    → Stands file at (spell_if (present scope.version kind) n) next → good_operand scope kind n ≡ true
     → operand_at scope kind file at ≡ Read.Number n (cursor next)
-read-of-operand scope bounded file kind at n next s g =
-    read-of-optional (present scope.version kind) 6 (allowed scope kind) file at
-    (record { stood = s; passes = g; small = small-of-good scope bounded kind n g })
+read_of_operand scope bounded file kind at n next s g =
+    read_of_optional (present scope.version kind) 6 (allowed scope kind) file at
+    (record { stood = s; passes = g; small = small_of_good scope bounded kind n g })
 
 -- operands that stand there and are good are read
-read-of-operands : (scope : Scope) → Bounded scope → (file : List ℕ) (kinds : List Operand) (ns : List ℕ) (from : Cursor) (k : List ℕ → Instr) (next : ℕ)
-    → length kinds ≡ length ns → Stands file from.at (spellOperands scope.version (named kinds ns)) next
-    → Each (Good scope) (named kinds ns) → operandsAt scope kinds file from k ≡ InstrRead.Instr (k ns) (cursor next)
-read-of-operands scope bounded file [] [] from k next e s g =
+read_of_operands : (scope : Scope) → Bounded scope → (file : List ℕ) (kinds : List Operand) (ns : List ℕ) (from : Cursor) (k : List ℕ → Instr) (next : ℕ)
+    → length kinds ≡ length ns → Stands file from.at (spell_operands scope.version (named kinds ns)) next
+    → Each (Good scope) (named kinds ns) → operands_at scope kinds file from k ≡ InstrRead.Instr (k ns) (cursor next)
+read_of_operands scope bounded file [] [] from k next e s g =
     let same : from.at ≡ next = omega (arith, s.ends) in
     ap (λ (m : ℕ). InstrRead.Instr (k []) (cursor m)) same
-read-of-operands scope bounded file [] (n ∷ ns) from k next e s g = absurd (omega arith)
-read-of-operands scope bounded file (kind ∷ kinds) [] from k next e s g = absurd (omega arith)
-read-of-operands scope bounded file (kind ∷ kinds) (n ∷ ns) from k next e s g =
-    let (s₁, s₂) = stands-split (spellIf (present scope.version kind) n) _ s in
-    an-operand scope file kind kinds from k (read-of-operand scope bounded file kind from.at n _ s₁ g.0)
-    ∙ read-of-operands scope bounded file kinds ns (cursor (from.at + length (spellIf (present scope.version kind) n))) (λ ms. k (n ∷ ms)) next (omega arith) s₂ g.1
+read_of_operands scope bounded file [] (n ∷ ns) from k next e s g = absurd (omega arith)
+read_of_operands scope bounded file (kind ∷ kinds) [] from k next e s g = absurd (omega arith)
+read_of_operands scope bounded file (kind ∷ kinds) (n ∷ ns) from k next e s g =
+    let (s₁, s₂) = stands_split (spell_if (present scope.version kind) n) _ s in
+    an_operand scope file kind kinds from k (read_of_operand scope bounded file kind from.at n _ s₁ g.0)
+    ∙ read_of_operands scope bounded file kinds ns (cursor (from.at + length (spell_if (present scope.version kind) n))) (λ ms. k (n ∷ ms)) next (omega arith) s₂ g.1
 
 -- what good parts say, one by one
 pub record GoodParts (scope : Scope) (p : Parts) : Type 0 where
-  pub opcode : hasOpcode scope.version p.op ≡ true
-  pub operands : Each (Good scope) (operandsIn p)
+  pub opcode : has_opcode scope.version p.op ≡ true
+  pub operands : Each (Good scope) (operands_in p)
 
-pub good-parts : (scope : Scope) (p : Parts) → goodParts scope p ≡ true → GoodParts scope p
-good-parts scope p g =
-    let fits : Bool = hasOpcode scope.version p.op in
+pub good_parts_lem : (scope : Scope) (p : Parts) → good_parts scope p ≡ true → GoodParts scope p
+good_parts_lem scope p g =
+    let fits : Bool = has_opcode scope.version p.op in
     record {
-      opcode = both_left fits (goodOperands scope (operandsIn p)) g;
-      operands = each-good scope (operandsIn p) (both_right fits (goodOperands scope (operandsIn p)) g);
+      opcode = both_left fits (good_operands scope (operands_in p)) g;
+      operands = each_good scope (operands_in p) (both_right fits (good_operands scope (operands_in p)) g);
     }
 
 -- a good instruction whose spelling stands there is read
-pub read-of-instr : (scope : Scope) (file : List ℕ) (at : ℕ) → Bounded scope → (i : Instr) (next : ℕ)
-    → Stands file at (spellInstr scope.version i) next → goodInstr scope i ≡ true
-    → readInstr scope file at ≡ InstrRead.Instr i (cursor next)
-read-of-instr scope file at bounded i next s g =
+pub read_of_instr : (scope : Scope) (file : List ℕ) (at : ℕ) → Bounded scope → (i : Instr) (next : ℕ)
+    → Stands file at (spell_instr scope.version i) next → good_instr scope i ≡ true
+    → read_instr scope file at ≡ InstrRead.Instr i (cursor next)
+read_of_instr scope file at bounded i next s g =
     let p : Parts = parts_of i in
-    let (s₁, s₂) = stands-split (spell p.op) _ s in
-    let good : GoodParts scope p = good-parts scope p g in
-    an-opcode scope file at
-    (read-of-judged 6 (hasOpcode scope.version) file at
-    (record { stood = s₁; passes = good.opcode; small = omega (arith, opcode-below scope.version p.op good.opcode) }))
-    ∙ read-of-operands scope bounded file (operandsOf (rowOf p.op)) (numbersOf p) _ (make p.op) next refl s₂ good.operands
-    ∙ ap (λ (j : Instr). InstrRead.Instr j (cursor next)) (make-parts i)
+    let (s₁, s₂) = stands_split (spell p.op) _ s in
+    let good : GoodParts scope p = good_parts_lem scope p g in
+    an_opcode scope file at
+    (read_of_judged 6 (has_opcode scope.version) file at
+    (record { stood = s₁; passes = good.opcode; small = omega (arith, opcode_below scope.version p.op good.opcode) }))
+    ∙ read_of_operands scope bounded file (operands_of (row_of p.op)) (numbers_of p) _ (make p.op) next refl s₂ good.operands
+    ∙ ap (λ (j : Instr). InstrRead.Instr j (cursor next)) (make_parts i)

@@ -15,54 +15,54 @@ use Rattle.files.specs.declared.Ended.{Ended}
 use Rattle.files.specs.declared.objects.Objects.{Objects}
 use Rattle.files.specs.declared.sets.Sets.{Sets}
 use Rattle.files.specs.declared.lines.Code.{Code}
-use Rattle.opcodes.specs.Ranges.{hasSets, within}
-use Rattle.files.specs.Program.{kindsOf, longest, mostCode}
-use Rattle.files.specs.Reading.{Reading, whole, refusal, judged, readFile}
-use Rattle.files.specs.Held.{held, heldAs}
-use Rattle.files.specs.Inside.{objectsAfter, objectsBehind, objectsOf, setsAfter, setsOf, codeAfter, code_of, ObjectsAre, ObjectsHeld, SetsAre, SetsHeld, CodeIs, CodeHeld, whole_of}
-use Rattle.files.proofs.Following.{read-by-parts}
+use Rattle.opcodes.specs.Ranges.{has_sets, within}
+use Rattle.files.specs.Program.{kinds_of, longest, most_code}
+use Rattle.files.specs.Reading.{Reading, whole, refusal, judged, read_file}
+use Rattle.files.specs.Held.{held, held_as}
+use Rattle.files.specs.Inside.{objects_after, objects_behind, objects_of, sets_after, sets_of, code_after, code_of, ObjectsAre, ObjectsHeld, SetsAre, SetsHeld, CodeIs, CodeHeld, whole_of}
+use Rattle.files.proofs.Following.{read_by_parts}
 use Rattle.files.proofs.Filled.{take-filled}
-use Rattle.files.proofs.Parts.{objects-read, objects-refused, sets-read, sets-refused, code_read, code-refused}
-use Rattle.files.specs.Parsing.{got, refused, afterVersion, afterObjectCount, afterObjects, afterSetCount, afterSets, afterCodeCount, afterCode}
+use Rattle.files.proofs.Parts.{objects_read, objects_refused, sets_read, sets_refused, code_read, code_refused}
+use Rattle.files.specs.Parsing.{got, refused, after_version, after_object_count, after_objects, after_set_count, after_sets, after_code_count, after_code}
 
 -- ---- the definition, part by part
 
 module _ (version : ℕ) (file : List ℕ) where
-  pub too_long : longest version < length file → readFile version file ≡ Reading.refused (refusal 1 0)
-  unfolding readFile
-  too_long h = rw (lt-leb _ _ h, readFile)
+  pub too_long_lem : longest version < length file → read_file version file ≡ Reading.refused (refusal 1 0)
+  unfolding read_file
+  too_long_lem h = rw (lt-leb _ _ h, read_file)
 
-  by_count : (r : Read) → afterObjectCount version file r ≡ afterObjects version file (objectsAfter version file r)
+  by_count : (r : Read) → after_object_count version file r ≡ after_objects version file (objects_after version file r)
   by_count (Read.Number n next) = refl
   by_count (Read.Refused q) = refl
 
-  by-version : (r : Read) → afterVersion version file r ≡ afterObjects version file (objectsBehind version file r)
-  by-version (Read.Number n next) = by_count (judged 5 (within 0 400) file next.at)
-  by-version (Read.Refused q) = refl
+  by_version : (r : Read) → after_version version file r ≡ after_objects version file (objects_behind version file r)
+  by_version (Read.Number n next) = by_count (judged 5 (within 0 400) file next.at)
+  by_version (Read.Refused q) = refl
 
-  pub by-objects : length file ≤ longest version → readFile version file ≡ afterObjects version file (objectsOf version file)
-  by-objects h = read-by-parts file version h ∙ by-version (judged 4 (within version version) file 0)
+  pub by_objects : length file ≤ longest version → read_file version file ≡ after_objects version file (objects_of version file)
+  by_objects h = read_by_parts file version h ∙ by_version (judged 4 (within version version) file 0)
 
-  by-set-count : (os : List Object) (r : Read) → afterSetCount version file os r ≡ afterSets version file os (setsAfter (length os) file r)
-  by-set-count os (Read.Number n next) = refl
-  by-set-count os (Read.Refused q) = refl
+  by_set_count : (os : List Object) (r : Read) → after_set_count version file os r ≡ after_sets version file os (sets_after (length os) file r)
+  by_set_count os (Read.Number n next) = refl
+  by_set_count os (Read.Refused q) = refl
 
-  pub by-sets : (os : List Object) (at : ℕ)
-      → afterObjects version file (got os at) ≡ afterSets version file os (setsOf version (length os) file at)
-  by-sets os at = go (hasSets version) refl
+  pub by_sets : (os : List Object) (at : ℕ)
+      → after_objects version file (got os at) ≡ after_sets version file os (sets_of version (length os) file at)
+  by_sets os at = go (has_sets version) refl
     where
-      go : (b : Bool) → hasSets version ≡ b → afterObjects version file (got os at) ≡ afterSets version file os (setsOf version (length os) file at)
-      go true e = simp (e, afterObjects, setsOf) (by-set-count os (judged 5 (within 0 400) file at))
-      go false e = simp (e, afterObjects, setsOf)
+      go : (b : Bool) → has_sets version ≡ b → after_objects version file (got os at) ≡ after_sets version file os (sets_of version (length os) file at)
+      go true e = simp (e, after_objects, sets_of) (by_set_count os (judged 5 (within 0 400) file at))
+      go false e = simp (e, after_objects, sets_of)
 
-  by-code-count : (os : List Object) (ss : List (List ℕ)) (r : Read)
-      → afterCodeCount version file os ss r ≡ afterCode file os ss (codeAfter version (kindsOf os) (length ss) file r)
-  by-code-count os ss (Read.Number n next) = refl
-  by-code-count os ss (Read.Refused q) = refl
+  by_code_count : (os : List Object) (ss : List (List ℕ)) (r : Read)
+      → after_code_count version file os ss r ≡ after_code file os ss (code_after version (kinds_of os) (length ss) file r)
+  by_code_count os ss (Read.Number n next) = refl
+  by_code_count os ss (Read.Refused q) = refl
 
   pub by_code : (os : List Object) (ss : List (List ℕ)) (at : ℕ)
-      → afterSets version file os (got ss at) ≡ afterCode file os ss (code_of version (kindsOf os) (length ss) file at)
-  by_code os ss at = by-code-count os ss (judged 5 (within 1 (mostCode version)) file at)
+      → after_sets version file os (got ss at) ≡ after_code file os ss (code_of version (kinds_of os) (length ss) file at)
+  by_code os ss at = by_code_count os ss (judged 5 (within 1 (most_code version)) file at)
 
 -- ---- what the parts' answers say
 
@@ -70,100 +70,100 @@ module _ (version : ℕ) (file : List ℕ) where
 pub record PastObjects (version : ℕ) (file : List ℕ) (o : Objects) (past : Cursor) : Type 0 where
   pub os : List Object
   pub held : ObjectsHeld os past.at o
-  pub read : readFile version file ≡ afterSets version file os (setsOf version o.count file past.at)
+  pub read : read_file version file ≡ after_sets version file os (sets_of version o.count file past.at)
 
 -- the sets are read: it goes on with its instructions
 pub record PastSets (version : ℕ) (file : List ℕ) (o : Objects) (s : Sets) (past : Cursor) : Type 0 where
   pub os : List Object
   pub before : ℕ
-  pub held-objects : ObjectsHeld os before o
+  pub held_objects : ObjectsHeld os before o
   pub ss : List (List ℕ)
-  pub held-sets : SetsHeld ss past.at s
-  pub read : readFile version file ≡ afterCode file os ss (code_of version (take o.count o.kinds) s.count file past.at)
+  pub held_sets : SetsHeld ss past.at s
+  pub read : read_file version file ≡ after_code file os ss (code_of version (take o.count o.kinds) s.count file past.at)
 
 -- the instructions are read
 pub record PastCode (version : ℕ) (file : List ℕ) (o : Objects) (s : Sets) (k : Code) (next : Cursor) : Type 0 where
   pub os : List Object
-  pub before-sets : ℕ
-  pub held-objects : ObjectsHeld os before-sets o
+  pub before_sets : ℕ
+  pub held_objects : ObjectsHeld os before_sets o
   pub ss : List (List ℕ)
-  pub before-code : ℕ
-  pub held-sets : SetsHeld ss before-code s
+  pub before_code : ℕ
+  pub held_sets : SetsHeld ss before_code s
   pub is : List Instr
-  pub held-code : CodeHeld is next.at k
-  pub read : readFile version file ≡ afterCode file os ss (got is next.at)
+  pub held_code : CodeHeld is next.at k
+  pub read : read_file version file ≡ after_code file os ss (got is next.at)
 
 -- the kinds that count
-pub kinds-are : {os : List Object} {n : ℕ} {o : Objects} → ObjectsHeld os n o → take o.count o.kinds ≡ kindsOf os
-kinds-are {os} {n} {o} h =
-    ap (take o.count) h.kinds ∙ take-filled 400 0 (kindsOf os) o.count (h.count ∙ sym (length-map os (λ o. o.kind)))
+pub kinds_are : {os : List Object} {n : ℕ} {o : Objects} → ObjectsHeld os n o → take o.count o.kinds ≡ kinds_of os
+kinds_are {os} {n} {o} h =
+    ap (take o.count) h.kinds ∙ take-filled 400 0 (kinds_of os) o.count (h.count ∙ sym (length-map os (λ o. o.kind)))
 
 module _ (version : ℕ) (file : List ℕ) where
-  pub no-objects : (o : Objects) {q : Refusal} → length file ≤ longest version → ObjectsAre (objectsOf version file) o → o.ended ≡ Ended.Refused q
-      → readFile version file ≡ Reading.refused q
-  no-objects o short h e = by-objects version file short ∙ ap (afterObjects version file) (objects-refused (objectsOf version file) o h e)
+  pub no_objects : (o : Objects) {q : Refusal} → length file ≤ longest version → ObjectsAre (objects_of version file) o → o.ended ≡ Ended.Refused q
+      → read_file version file ≡ Reading.refused q
+  no_objects o short h e = by_objects version file short ∙ ap (after_objects version file) (objects_refused (objects_of version file) o h e)
 
-  pub past-objects : (o : Objects) {past : Cursor} → length file ≤ longest version → ObjectsAre (objectsOf version file) o → o.ended ≡ Ended.Next past
+  pub past_objects : (o : Objects) {past : Cursor} → length file ≤ longest version → ObjectsAre (objects_of version file) o → o.ended ≡ Ended.Next past
       → PastObjects version file o past
-  past-objects o {past} short h e =
-      let r = objects-read (objectsOf version file) o h e in
+  past_objects o {past} short h e =
+      let r = objects_read (objects_of version file) o h e in
       record {
         os = r.all;
         held = r.held;
         read =
-            by-objects version file short ∙ ap (afterObjects version file) r.read ∙ by-sets version file r.all past.at
-            ∙ ap (λ (n : ℕ). afterSets version file r.all (setsOf version n file past.at)) (sym r.held.count);
+            by_objects version file short ∙ ap (after_objects version file) r.read ∙ by_sets version file r.all past.at
+            ∙ ap (λ (n : ℕ). after_sets version file r.all (sets_of version n file past.at)) (sym r.held.count);
       }
 
-  module _ (o : Objects) (s : Sets) {past : Cursor} (p : PastObjects version file o past) (h : SetsAre (setsOf version o.count file past.at) s) where
-    pub no-sets : {q : Refusal} → s.ended ≡ Ended.Refused q → readFile version file ≡ Reading.refused q
-    no-sets e = p.read ∙ ap (afterSets version file p.os) (sets-refused (setsOf version o.count file past.at) s h e)
+  module _ (o : Objects) (s : Sets) {past : Cursor} (p : PastObjects version file o past) (h : SetsAre (sets_of version o.count file past.at) s) where
+    pub no_sets_lem : {q : Refusal} → s.ended ≡ Ended.Refused q → read_file version file ≡ Reading.refused q
+    no_sets_lem e = p.read ∙ ap (after_sets version file p.os) (sets_refused (sets_of version o.count file past.at) s h e)
 
-    pub past-sets : {next : Cursor} → s.ended ≡ Ended.Next next → PastSets version file o s next
-    past-sets {next} e =
-        let r = sets-read (setsOf version o.count file past.at) s h e in
+    pub past_sets : {next : Cursor} → s.ended ≡ Ended.Next next → PastSets version file o s next
+    past_sets {next} e =
+        let r = sets_read (sets_of version o.count file past.at) s h e in
         record {
           os = p.os;
           before = past.at;
-          held-objects = p.held;
+          held_objects = p.held;
           ss = r.all;
-          held-sets = r.held;
+          held_sets = r.held;
           read =
-              p.read ∙ ap (afterSets version file p.os) r.read ∙ by_code version file p.os r.all next.at
-              ∙ ap₂ (λ (ks : List ℕ) (n : ℕ). afterCode file p.os r.all (code_of version ks n file next.at)) (sym (kinds-are p.held)) (sym r.held.count);
+              p.read ∙ ap (after_sets version file p.os) r.read ∙ by_code version file p.os r.all next.at
+              ∙ ap₂ (λ (ks : List ℕ) (n : ℕ). after_code file p.os r.all (code_of version ks n file next.at)) (sym (kinds_are p.held)) (sym r.held.count);
         }
 
   module _ (o : Objects) (s : Sets) (k : Code) {past : Cursor} (p : PastSets version file o s past)
       (h : CodeIs (code_of version (take o.count o.kinds) s.count file past.at) k) where
-    pub no_code : {q : Refusal} → k.ended ≡ Ended.Refused q → readFile version file ≡ Reading.refused q
-    no_code e = p.read ∙ ap (afterCode file p.os p.ss) (code-refused (code_of version (take o.count o.kinds) s.count file past.at) k h e)
+    pub no_code : {q : Refusal} → k.ended ≡ Ended.Refused q → read_file version file ≡ Reading.refused q
+    no_code e = p.read ∙ ap (after_code file p.os p.ss) (code_refused (code_of version (take o.count o.kinds) s.count file past.at) k h e)
 
-    pub past-code : {next : Cursor} → k.ended ≡ Ended.Next next → PastCode version file o s k next
-    past-code {next} e =
+    pub past_code : {next : Cursor} → k.ended ≡ Ended.Next next → PastCode version file o s k next
+    past_code {next} e =
         let r = code_read (code_of version (take o.count o.kinds) s.count file past.at) k h e in
         record {
           os = p.os;
-          before-sets = p.before;
-          held-objects = p.held-objects;
+          before_sets = p.before;
+          held_objects = p.held_objects;
           ss = p.ss;
-          before-code = past.at;
-          held-sets = p.held-sets;
+          before_code = past.at;
+          held_sets = p.held_sets;
           is = r.all;
-          held-code = r.held;
-          read = p.read ∙ ap (afterCode file p.os p.ss) r.read;
+          held_code = r.held;
+          read = p.read ∙ ap (after_code file p.os p.ss) r.read;
         }
 
   module _ {o : Objects} {s : Sets} {k : Code} {next : Cursor} (p : PastCode version file o s k next) where
-    pub bytes-behind : (next.at ≡ length file → ⊥) → readFile version file ≡ Reading.refused (refusal 7 next.at)
-    bytes-behind h = p.read ∙ simp (ne_eqb _ _ h, afterCode)
+    pub bytes_behind : (next.at ≡ length file → ⊥) → read_file version file ≡ Reading.refused (refusal 7 next.at)
+    bytes_behind h = p.read ∙ simp (ne_eqb _ _ h, after_code)
 
-    pub all_read : next.at ≡ length file → whole_of o s k ≡ held (readFile version file)
+    pub all_read : next.at ≡ length file → whole_of o s k ≡ held (read_file version file)
     all_read e =
-        let ho = p.held-objects in
-        let hs = p.held-sets in
-        let hc = p.held-code in
-        let done : readFile version file ≡ whole (record { objects = p.os; sets = p.ss; code = p.is }) = p.read ∙ simp (eq-eqb _ _ e, afterCode) in
-        let all : whole_of o s k ≡ heldAs Outcome.Whole (record { objects = p.os; sets = p.ss; code = p.is }) =
+        let ho = p.held_objects in
+        let hs = p.held_sets in
+        let hc = p.held_code in
+        let done : read_file version file ≡ whole (record { objects = p.os; sets = p.ss; code = p.is }) = p.read ∙ simp (eq-eqb _ _ e, after_code) in
+        let all : whole_of o s k ≡ held_as Outcome.Whole (record { objects = p.os; sets = p.ss; code = p.is }) =
         (λ i. record {
           outcome = Outcome.Whole;
           objects = ho.count i;

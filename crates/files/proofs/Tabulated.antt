@@ -22,8 +22,8 @@ module _ {A : Type 0} (f : ℕ → A) where
   get_d_tabulate from (suc n) (suc g) d h = get_d_tabulate (from + 1) n g d (le_of_suc-le-suc h) ∙ ap f (omega arith)
 
   -- the same, for a list that starts at 0
-  pub getD-tabulate-zero : (n g : ℕ) (d : A) → g < n → get_or (tabulate f 0 n) g d ≡ f g
-  getD-tabulate-zero n g d h = get_d_tabulate 0 n g d h ∙ ap f (zero-add g)
+  pub get_d_tabulate_zero : (n g : ℕ) (d : A) → g < n → get_or (tabulate f 0 n) g d ≡ f g
+  get_d_tabulate_zero n g d h = get_d_tabulate 0 n g d h ∙ ap f (zero-add g)
 
   pub take-tabulate : (from n g : ℕ) → g ≤ n → take g (tabulate f from n) ≡ tabulate f from g
   unfolding tabulate
@@ -32,25 +32,25 @@ module _ {A : Type 0} (f : ℕ → A) where
   take-tabulate from (suc n) (suc g) h = ap (λ r. f from ∷ r) (take-tabulate (from + 1) n g (le_of_suc-le-suc h))
 
   -- one more at the end
-  pub tabulate-last : (from n : ℕ) → tabulate f from (n + 1) ≡ tabulate f from n ++ (f (from + n) ∷ [])
+  pub tabulate_last : (from n : ℕ) → tabulate f from (n + 1) ≡ tabulate f from n ++ (f (from + n) ∷ [])
   unfolding tabulate
-  tabulate-last from n = ap (tabulate f from) (add-one n) ∙ go from n
+  tabulate_last from n = ap (tabulate f from) (add-one n) ∙ go from n
     where
       go : (from n : ℕ) → tabulate f from (suc n) ≡ tabulate f from n ++ (f (from + n) ∷ [])
       go from zero = ap (λ x. f x ∷ []) (omega arith)
       go from (suc n) = ap (λ r. f from ∷ r) (go (from + 1) n ∙ ap (λ x. tabulate f (from + 1) n ++ (f x ∷ [])) (omega arith))
 
   -- what a loop that stands at i still goes through: the one at i and those after it, nothing, or all
-  pub tabulate-first : (i count : ℕ) → i < count → tabulate f i (count - i) ≡ f i ∷ tabulate f (i + 1) (count - (i + 1))
+  pub tabulate_first : (i count : ℕ) → i < count → tabulate f i (count - i) ≡ f i ∷ tabulate f (i + 1) (count - (i + 1))
   unfolding tabulate
-  tabulate-first i count h = let one : count - i ≡ suc (count - (i + 1)) = omega arith in rw one
+  tabulate_first i count h = let one : count - i ≡ suc (count - (i + 1)) = omega arith in rw one
 
-  pub tabulate-none : (i count : ℕ) → count ≤ i → tabulate f i (count - i) ≡ []
+  pub tabulate_none : (i count : ℕ) → count ≤ i → tabulate f i (count - i) ≡ []
   unfolding tabulate
-  tabulate-none i count h = let none : count - i ≡ 0 = omega arith in rw none
+  tabulate_none i count h = let none : count - i ≡ 0 = omega arith in rw none
 
-  pub tabulate-all : (count : ℕ) → tabulate f 0 (count - 0) ≡ tabulate f 0 count
-  tabulate-all count = ap (tabulate f 0) (sub-zero count)
+  pub tabulate_all : (count : ℕ) → tabulate f 0 (count - 0) ≡ tabulate f 0 count
+  tabulate_all count = ap (tabulate f 0) (sub-zero count)
 
 -- what g gives for n elements of a list, from the one at i on
 pub map-take : {A B : Type 0} (g : A → B) (l : List A) (d : A) (n i : ℕ) → i + n ≤ length l

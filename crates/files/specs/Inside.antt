@@ -15,79 +15,79 @@ use Rattle.files.specs.declared.objects.Objects.{Objects}
 use Rattle.files.specs.declared.sets.SetRead.{SetRead}
 use Rattle.files.specs.declared.sets.Sets.{Sets}
 use Rattle.files.specs.declared.lines.Code.{Code}
-use Rattle.opcodes.specs.Ranges.{hasSets, within}
-use Rattle.files.specs.Program.{mostCode}
-use Rattle.files.specs.Reading.{isMember, refusal, judged}
-use Rattle.files.specs.Held.{filled, line, endsFrom, joined}
-use Rattle.files.specs.Parsing.{Parsed, got, refused, cursor, objectsFrom, setsFrom, codeFrom}
+use Rattle.opcodes.specs.Ranges.{has_sets, within}
+use Rattle.files.specs.Program.{most_code}
+use Rattle.files.specs.Reading.{is_member, refusal, judged}
+use Rattle.files.specs.Held.{filled, line, ends_from, joined}
+use Rattle.files.specs.Parsing.{Parsed, got, refused, cursor, objects_from, sets_from, code_from}
 
 -- a scope whose names fit the fields of an instruction
 pub record Small (scope : Scope) (kinds : List ℕ) : Type 0 where
-  pub few-objects : length kinds ≤ 400
-  pub few-sets : scope.sets ≤ 400
-  pub few-lines : scope.lines ≤ 2000
+  pub few_objects : length kinds ≤ 400
+  pub few_sets : scope.sets ≤ 400
+  pub few_lines : scope.lines ≤ 2000
 
 -- ---- why a read gave nothing; where it gave something, nothing is asked
 
-abbrev pub noRefusal : Refusal
-noRefusal = refusal 0 0
+abbrev pub no_refusal : Refusal
+no_refusal = refusal 0 0
 
-abbrev pub whyRead : Read → Refusal
-whyRead (Read.Number n next) = noRefusal
-whyRead (Read.Refused q) = q
+abbrev pub why_read : Read → Refusal
+why_read (Read.Number n next) = no_refusal
+why_read (Read.Refused q) = q
 
-abbrev pub whyObject : ObjectRead → Refusal
-whyObject (ObjectRead.Object o next) = noRefusal
-whyObject (ObjectRead.Refused q) = q
+abbrev pub why_object : ObjectRead → Refusal
+why_object (ObjectRead.Object o next) = no_refusal
+why_object (ObjectRead.Refused q) = q
 
-abbrev pub whySet : SetRead → Refusal
-whySet (SetRead.Set end next) = noRefusal
-whySet (SetRead.Refused q) = q
+abbrev pub why_set : SetRead → Refusal
+why_set (SetRead.Set end next) = no_refusal
+why_set (SetRead.Refused q) = q
 
-abbrev pub whyInstr : InstrRead → Refusal
-whyInstr (InstrRead.Instr i next) = noRefusal
-whyInstr (InstrRead.Refused q) = q
+abbrev pub why_instr : InstrRead → Refusal
+why_instr (InstrRead.Instr i next) = no_refusal
+why_instr (InstrRead.Refused q) = q
 
-abbrev pub whyEnded : Ended → Refusal
-whyEnded (Ended.Next next) = noRefusal
-whyEnded (Ended.Refused q) = q
+abbrev pub why_ended : Ended → Refusal
+why_ended (Ended.Next next) = no_refusal
+why_ended (Ended.Refused q) = q
 
 -- ---- the parts of a file, each with its count
 
-abbrev pub objectsAfter : (version : ℕ) → List ℕ → Read → Parsed (List Object)
-objectsAfter version file (Read.Number n next) = objectsFrom n version file next.at []
-objectsAfter version file (Read.Refused q) = refused q
+abbrev pub objects_after : (version : ℕ) → List ℕ → Read → Parsed (List Object)
+objects_after version file (Read.Number n next) = objects_from n version file next.at []
+objects_after version file (Read.Refused q) = refused q
 
-abbrev pub objectsBehind : (version : ℕ) → List ℕ → Read → Parsed (List Object)
-objectsBehind version file (Read.Number n next) = objectsAfter version file (judged 5 (within 0 400) file next.at)
-objectsBehind version file (Read.Refused q) = refused q
+abbrev pub objects_behind : (version : ℕ) → List ℕ → Read → Parsed (List Object)
+objects_behind version file (Read.Number n next) = objects_after version file (judged 5 (within 0 400) file next.at)
+objects_behind version file (Read.Refused q) = refused q
 
-abbrev pub objectsOf : (version : ℕ) → List ℕ → Parsed (List Object)
-objectsOf version file = objectsBehind version file (judged 4 (within version version) file 0)
+abbrev pub objects_of : (version : ℕ) → List ℕ → Parsed (List Object)
+objects_of version file = objects_behind version file (judged 4 (within version version) file 0)
 
-abbrev pub setsAfter : (objects : ℕ) → List ℕ → Read → Parsed (List (List ℕ))
-setsAfter objects file (Read.Number n next) = setsFrom n objects file next.at []
-setsAfter objects file (Read.Refused q) = refused q
+abbrev pub sets_after : (objects : ℕ) → List ℕ → Read → Parsed (List (List ℕ))
+sets_after objects file (Read.Number n next) = sets_from n objects file next.at []
+sets_after objects file (Read.Refused q) = refused q
 
-abbrev pub setsOf : (version objects : ℕ) → List ℕ → (at : ℕ) → Parsed (List (List ℕ))
-setsOf version objects file at =
-    elim (hasSets version) [
-      | true ↦ setsAfter objects file (judged 5 (within 0 400) file at)
+abbrev pub sets_of : (version objects : ℕ) → List ℕ → (at : ℕ) → Parsed (List (List ℕ))
+sets_of version objects file at =
+    elim (has_sets version) [
+      | true ↦ sets_after objects file (judged 5 (within 0 400) file at)
       | false ↦ got [] at
     ]
 
-abbrev pub codeAfter : (version : ℕ) → (kinds : List ℕ) → (sets : ℕ) → List ℕ → Read → Parsed (List Instr)
-codeAfter version kinds sets file (Read.Number n next) =
-    codeFrom n (record { version = version; kinds = kinds; sets = sets; code = n }) file next.at []
-codeAfter version kinds sets file (Read.Refused q) = refused q
+abbrev pub code_after : (version : ℕ) → (kinds : List ℕ) → (sets : ℕ) → List ℕ → Read → Parsed (List Instr)
+code_after version kinds sets file (Read.Number n next) =
+    code_from n (record { version = version; kinds = kinds; sets = sets; code = n }) file next.at []
+code_after version kinds sets file (Read.Refused q) = refused q
 
 abbrev pub code_of : (version : ℕ) → (kinds : List ℕ) → (sets : ℕ) → List ℕ → (at : ℕ) → Parsed (List Instr)
 code_of version kinds sets file at =
-    codeAfter version kinds sets file (judged 5 (within 1 (mostCode version)) file at)
+    code_after version kinds sets file (judged 5 (within 1 (most_code version)) file at)
 
 -- a member of a set: an object's number that is not below `low`
-abbrev pub memberAt : (objects low : ℕ) → List ℕ → (at : ℕ) → Read
-memberAt objects low file at = judged 6 (isMember objects low) file at
+abbrev pub member_at : (objects low : ℕ) → List ℕ → (at : ℕ) → Read
+member_at objects low file at = judged 6 (is_member objects low) file at
 
 -- the room for members is as long as the longest file of version 1, and filled no further than the file is read
 pub record Roomy (file : List ℕ) (at objects : ℕ) (room : List ℕ) (start : ℕ) : Type 0 where
@@ -128,7 +128,7 @@ SetIs (refused q) r before from after = r ≡ SetRead.Refused q
 pub record SetsHeld (ss : List (List ℕ)) (next : ℕ) (r : Sets) : Type 0 where
   pub few : length ss ≤ 400
   pub count : r.count ≡ length ss
-  pub ends : r.ends ≡ filled 400 0 (endsFrom 0 ss)
+  pub ends : r.ends ≡ filled 400 0 (ends_from 0 ss)
   pub members : r.members ≡ filled 16384 0 (joined ss)
   pub ended : r.ended ≡ Ended.Next (cursor next)
 

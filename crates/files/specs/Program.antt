@@ -10,16 +10,16 @@ pub record Program : Type 0 where
   pub code : List Instr
 
 -- "Version 2 starts with 2, has a color at the end of each object"
-abbrev pub hasColors : (version : ℕ) → Bool
-hasColors version = eqb version 2
+abbrev pub has_colors : (version : ℕ) → Bool
+has_colors version = eqb version 2
 
 -- "1 to 1,000", and "1 to 2,000 instructions" in version 2
-abbrev pub mostCode : (version : ℕ) → ℕ
-mostCode version = elim (eqb version 1) [ true ↦ 1000 | false ↦ 2000 ]
+abbrev pub most_code : (version : ℕ) → ℕ
+most_code version = elim (eqb version 1) [ true ↦ 1000 | false ↦ 2000 ]
 
 -- "Limits: 16,384 bytes for version 1, 32,768 for version 2"
 abbrev pub longest : (version : ℕ) → ℕ
 longest version = elim (eqb version 1) [ true ↦ 16384 | false ↦ 32768 ]
 
-abbrev pub kindsOf : List Object → List ℕ
-kindsOf objects = map (λ o. o.kind) objects
+abbrev pub kinds_of : List Object → List ℕ
+kinds_of objects = map (λ o. o.kind) objects

@@ -3,22 +3,22 @@
 use Rattle.std.specs.Prelude.{ℕ, zero, suc, ◌+◌, List, [], ◌∷◌, ◌++◌, Bool, true, false, length, ltb, leb, eqb}
 use Rattle.numbers.specs.declared.Refusal.{Refusal}
 use Rattle.numbers.specs.declared.Read.{Read}
-use Rattle.numbers.specs.Number.{readNumber}
+use Rattle.numbers.specs.Number.{read_number}
 use Rattle.opcodes.specs.declared.Operand.{Operand}
 use Rattle.opcodes.specs.declared.Instr.{Instr}
-use Rattle.opcodes.specs.Table.{rowOf, operandsOf, make}
-use Rattle.opcodes.specs.Ranges.{Scope, hasSets, hasOpcode, within, isColor, present, allowed}
+use Rattle.opcodes.specs.Table.{row_of, operands_of, make}
+use Rattle.opcodes.specs.Ranges.{Scope, has_sets, has_opcode, within, is_color, present, allowed}
 use Rattle.files.specs.declared.Object.{Object}
-use Rattle.files.specs.Program.{Program, hasColors, mostCode, longest, kindsOf}
+use Rattle.files.specs.Program.{Program, has_colors, most_code, longest, kinds_of}
 
 pub data Reading : Type 0 where
   whole : Program → Reading
   refused : Refusal → Reading
 
 -- what comes after reading: a refusal stays as it is
-abbrev pub onWhole : (Program → Reading) → Reading → Reading
-onWhole next (whole p) = next p
-onWhole next (Reading.refused q) = Reading.refused q
+abbrev pub on_whole : (Program → Reading) → Reading → Reading
+on_whole next (whole p) = next p
+on_whole next (Reading.refused q) = Reading.refused q
 
 abbrev pub refusal : (number place : ℕ) → Refusal
 refusal number place = record { number = number; place = place }
@@ -30,7 +30,7 @@ judge why at test (Read.Number n next) =
 judge why at test (Read.Refused q) = Read.Refused q
 
 abbrev pub judged : (why : ℕ) → (ℕ → Bool) → List ℕ → (at : ℕ) → Read
-judged why test file at = judge why at test (readNumber file at)
+judged why test file at = judge why at test (read_number file at)
 
 -- ---- "A file is numbers and nothing else": which numbers are asked for, one after the other, each with its
 -- test. What is asked next hangs on the numbers before it.
@@ -40,9 +40,9 @@ pub data Sort : Type 0 where
   count : Sort
   field : Sort
 
-abbrev pub refusedWith : Sort → ℕ
-refusedWith count = 5
-refusedWith field = 6
+abbrev pub refused_with : Sort → ℕ
+refused_with count = 5
+refused_with field = 6
 
 pub data Plan : Type 0 where
   done : Program → Plan
@@ -56,7 +56,7 @@ on (Read.Refused q) f = Reading.refused q
 -- reading by a plan from a place on: "7 | bytes after the last instruction | the first of them"
 unfoldable pub follow : Plan → List ℕ → (at : ℕ) → Reading
 follow (done p) file at = elim (eqb at (length file)) [ true ↦ whole p | false ↦ Reading.refused (refusal 7 at) ]
-follow (ask sort test next) file at = on (judged (refusedWith sort) test file at) (λ n behind. follow (next n) file behind)
+follow (ask sort test next) file at = on (judged (refused_with sort) test file at) (λ n behind. follow (next n) file behind)
 
 -- a field that stands in the file, or 0
 abbrev pub maybe : Bool → (ℕ → Bool) → (ℕ → Plan) → Plan
@@ -70,64 +70,64 @@ many (suc left) one xs k = one (λ x. many left one (xs ++ x ∷ []) k)
 
 -- "each is kind 0 (global) with a size 1 to 4,096, or kind 1 (heap site) with no size", in version 2 with "a
 -- color (0 or 2 to 255) at the end"
-abbrev pub objectPlan : (version : ℕ) → (Object → Plan) → Plan
-objectPlan version k =
+abbrev pub object_plan : (version : ℕ) → (Object → Plan) → Plan
+object_plan version k =
     ask field (within 0 1) λ kind.
     maybe (eqb kind 0) (within 1 4096) λ size.
-    maybe (hasColors version) isColor λ color.
+    maybe (has_colors version) is_color λ color.
     k (record { kind = kind; size = size; color = color })
 
 -- "that many object numbers, strictly rising": `left` members more, none below `low`
-abbrev pub isMember : (objects low n : ℕ) → Bool
-isMember objects low n = elim (leb low n) [ true ↦ ltb n objects | false ↦ false ]
+abbrev pub is_member : (objects low n : ℕ) → Bool
+is_member objects low n = elim (leb low n) [ true ↦ ltb n objects | false ↦ false ]
 
-unfoldable pub membersPlan : (left objects low : ℕ) → List ℕ → (List ℕ → Plan) → Plan
-membersPlan zero objects low ns k = k ns
-membersPlan (suc left) objects low ns k =
-    ask field (isMember objects low) λ n. membersPlan left objects (n + 1) (ns ++ n ∷ []) k
+unfoldable pub members_plan : (left objects low : ℕ) → List ℕ → (List ℕ → Plan) → Plan
+members_plan zero objects low ns k = k ns
+members_plan (suc left) objects low ns k =
+    ask field (is_member objects low) λ n. members_plan left objects (n + 1) (ns ++ n ∷ []) k
 
 -- "each is a count, 1 to the count of objects, and that many object numbers"
-abbrev pub setPlan : (objects : ℕ) → (List ℕ → Plan) → Plan
-setPlan objects k = ask count (within 1 objects) λ n. membersPlan n objects 0 [] k
+abbrev pub set_plan : (objects : ℕ) → (List ℕ → Plan) → Plan
+set_plan objects k = ask count (within 1 objects) λ n. members_plan n objects 0 [] k
 
 -- "the count of sets, 0 to 400"; "Version 2 .. has .. no sets"
-abbrev pub setsPlan : Bool → (objects : ℕ) → (List (List ℕ) → Plan) → Plan
-setsPlan true objects k = ask count (within 0 400) λ n. many n (setPlan objects) [] k
-setsPlan false objects k = k []
+abbrev pub sets_plan : Bool → (objects : ℕ) → (List (List ℕ) → Plan) → Plan
+sets_plan true objects k = ask count (within 0 400) λ n. many n (set_plan objects) [] k
+sets_plan false objects k = k []
 
 -- an instruction: the opcode, and the operands that its row names
-abbrev pub operandPlan : Scope → Operand → (ℕ → Plan) → Plan
-operandPlan scope kind k = maybe (present scope.version kind) (allowed scope kind) k
+abbrev pub operand_plan : Scope → Operand → (ℕ → Plan) → Plan
+operand_plan scope kind k = maybe (present scope.version kind) (allowed scope kind) k
 
-abbrev pub operandsPlan : Scope → List Operand → (List ℕ → Plan) → Plan
-operandsPlan scope [] k = k []
-operandsPlan scope (kind ∷ kinds) k = operandPlan scope kind λ n. operandsPlan scope kinds λ ns. k (n ∷ ns)
+abbrev pub operands_plan : Scope → List Operand → (List ℕ → Plan) → Plan
+operands_plan scope [] k = k []
+operands_plan scope (kind ∷ kinds) k = operand_plan scope kind λ n. operands_plan scope kinds λ ns. k (n ∷ ns)
 
-abbrev pub instrPlan : Scope → (Instr → Plan) → Plan
-instrPlan scope k =
-    ask field (hasOpcode scope.version) λ op.
-    operandsPlan scope (operandsOf (rowOf op)) λ ns.
+abbrev pub instr_plan : Scope → (Instr → Plan) → Plan
+instr_plan scope k =
+    ask field (has_opcode scope.version) λ op.
+    operands_plan scope (operands_of (row_of op)) λ ns.
     k (make op ns)
 
 -- behind the version: "the count of objects, 0 to 400; ..; the count of sets ..; the count of instructions, 1 to
 -- 1,000, and the instructions"
-abbrev pub codePlan : (version : ℕ) → List Object → List (List ℕ) → Plan
-codePlan version os ss =
-    ask count (within 1 (mostCode version)) λ n.
-    many n (instrPlan (record { version = version; kinds = kindsOf os; sets = length ss; code = n })) [] λ code.
+abbrev pub code_plan : (version : ℕ) → List Object → List (List ℕ) → Plan
+code_plan version os ss =
+    ask count (within 1 (most_code version)) λ n.
+    many n (instr_plan (record { version = version; kinds = kinds_of os; sets = length ss; code = n })) [] λ code.
     done (record { objects = os; sets = ss; code = code })
 
-abbrev pub filePlan : (version : ℕ) → Plan
-filePlan version =
+abbrev pub file_plan : (version : ℕ) → Plan
+file_plan version =
     ask count (within 0 400) λ n.
-    many n (objectPlan version) [] λ os.
-    setsPlan (hasSets version) (length os) λ ss.
-    codePlan version os ss
+    many n (object_plan version) [] λ os.
+    sets_plan (has_sets version) (length os) λ ss.
+    code_plan version os ss
 
 -- "Order: .. then 1, then the file from left to right"; "1 | file too long | 0"; "4 | version"
-unfoldable pub readFile : (version : ℕ) → List ℕ → Reading
-readFile version file =
+unfoldable pub read_file : (version : ℕ) → List ℕ → Reading
+read_file version file =
     elim (leb (length file) (longest version)) [
-      | true ↦ on (judged 4 (within version version) file 0) (λ n behind. follow (filePlan version) file behind)
+      | true ↦ on (judged 4 (within version version) file 0) (λ n behind. follow (file_plan version) file behind)
       | false ↦ Reading.refused (refusal 1 0)
     ]

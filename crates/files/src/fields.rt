@@ -1,10 +1,10 @@
 // The fields of a file: each number is judged as soon as it is read, and a read answers the value with the
 // next cursor or a refusal, which is handed up at once.
 ghost use Rattle.std.specs.Prelude.{◌≡◌};
-ghost use Rattle.opcodes.specs.Ranges.{hasOpcode, within, scopeOver};
-ghost use Rattle.files.specs.Reading.{judged, isMember};
-ghost use Rattle.files.specs.Inside.{whyRead, memberAt};
-ghost use Rattle.files.specs.Parsing.{colorAt, size_at, operand_at};
+ghost use Rattle.opcodes.specs.Ranges.{has_opcode, within, scope_over};
+ghost use Rattle.files.specs.Reading.{judged, is_member};
+ghost use Rattle.files.specs.Inside.{why_read, member_at};
+ghost use Rattle.files.specs.Parsing.{color_at, size_at, operand_at};
 
 use numbers::{Cursor, Read, Refusal};
 use opcodes::ranges::{is_allowed, is_color, is_within};
@@ -14,7 +14,7 @@ use table::has_opcode;
 
 // Why a number was not read.
 pub(crate) fn why_read(read: Read) -> Refusal
-    ensures { result ≡ whyRead read }
+    ensures { result ≡ why_read read }
 {
     match read {
         Read::Number(_, _) => Refusal {
@@ -42,7 +42,7 @@ pub(crate) fn ranged(file: &[u8], from: Cursor, number: u8, low: u32, high: u32)
 
 // The color at the end of an object; a file of version 1 has none.
 pub(crate) fn color_at(file: &[u8], from: Cursor, version: u8) -> Read
-    ensures { result ≡ colorAt version file.now from.at }
+    ensures { result ≡ color_at version file.now from.at }
 {
     if version != 2 {
         return Read::Number(0, from);
@@ -70,7 +70,7 @@ pub(crate) fn size_at(file: &[u8], from: Cursor, kind: u32) -> Read
 
 // Whether a number names an object that is not below `low`.
 fn is_member(objects: usize, low: usize, n: u32) -> bool
-    ensures { result ≡ isMember objects low n }
+    ensures { result ≡ is_member objects low n }
 {
     let member = n as usize;
     low <= member && member < objects
@@ -78,7 +78,7 @@ fn is_member(objects: usize, low: usize, n: u32) -> bool
 
 // A member of a set, which is not below `low`, or a refusal at its first byte.
 pub(crate) fn member_at(file: &[u8], from: Cursor, objects: usize, low: usize) -> Read
-    ensures { result ≡ memberAt objects low file.now from.at }
+    ensures { result ≡ member_at objects low file.now from.at }
 {
     let place = from.at;
     let read = reader::read_at(file, from);
@@ -93,7 +93,7 @@ pub(crate) fn member_at(file: &[u8], from: Cursor, objects: usize, low: usize) -
 
 // An opcode of a version, or a refusal at its first byte.
 pub(crate) fn opcode_at(file: &[u8], from: Cursor, version: u8) -> Read
-    ensures { result ≡ judged 6 (hasOpcode version) file.now from.at }
+    ensures { result ≡ judged 6 (has_opcode version) file.now from.at }
 {
     let place = from.at;
     let read = reader::read_at(file, from);
@@ -114,7 +114,7 @@ pub(crate) fn operand_at(
     scope: Scope,
     kind: Operand,
 ) -> Read
-    ensures { result ≡ operand_at (scopeOver scope kinds.now) kind file.now from.at }
+    ensures { result ≡ operand_at (scope_over scope kinds.now) kind file.now from.at }
 {
     if !is_present(scope.version, kind) {
         return Read::Number(0, from);

@@ -4,7 +4,7 @@
 // refusal from left to right. The crate `writer` writes files of version 2; what it promises is said
 // here, so that both directions go by one definition of a file.
 ghost use Rattle.std.specs.Prelude.{◌≡◌};
-ghost use Rattle.files.specs.Reading.{readFile};
+ghost use Rattle.files.specs.Reading.{read_file};
 ghost use Rattle.files.specs.Held.{held};
 
 use numbers::{Cursor, Refusal};
@@ -92,14 +92,14 @@ pub enum Written {
 
 // Reads bytes as a file of version 1.
 pub fn read_routine(file: &[u8]) -> Loaded
-    ensures { result ≡ held (readFile 1 file.now) }
+    ensures { result ≡ held (read_file 1 file.now) }
 {
     reading::read_file(file, 1)
 }
 
 // Reads bytes as a file of version 2.
 pub fn read_program(file: &[u8]) -> Loaded
-    ensures { result ≡ held (readFile 2 file.now) }
+    ensures { result ≡ held (read_file 2 file.now) }
 {
     reading::read_file(file, 2)
 }

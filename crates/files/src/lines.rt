@@ -1,9 +1,9 @@
 // The instructions of a file, each by the row of its opcode in the table.
 ghost use Rattle.std.specs.Prelude.{◌≡◌, [], ◌≤◌, length};
-ghost use Rattle.opcodes.specs.Ranges.{scopeOver};
-ghost use Rattle.files.specs.Program.{mostCode};
-ghost use Rattle.files.specs.Inside.{Small, whyInstr, CodeIs, code_of};
-ghost use Rattle.files.specs.Parsing.{readInstr, codeFrom};
+ghost use Rattle.opcodes.specs.Ranges.{scope_over};
+ghost use Rattle.files.specs.Program.{most_code};
+ghost use Rattle.files.specs.Inside.{Small, why_instr, CodeIs, code_of};
+ghost use Rattle.files.specs.Parsing.{read_instr, code_from};
 
 use super::blank::blank_code;
 use super::fields::{opcode_at, operand_at, ranged, why_read};
@@ -25,7 +25,7 @@ pub struct Code {
 // One instruction: its opcode, and the operands that its row names.
 fn read_instr(file: &[u8], from: Cursor, kinds: &[u8], scope: Scope) -> InstrRead
     requires { Small scope kinds.now }
-    ensures { result ≡ readInstr (scopeOver scope kinds.now) file.now from.at }
+    ensures { result ≡ read_instr (scope_over scope kinds.now) file.now from.at }
 {
     let opcode = opcode_at(file, from, scope.version);
     let Read::Number(op, past_opcode) = opcode else {
@@ -58,7 +58,7 @@ fn read_instr(file: &[u8], from: Cursor, kinds: &[u8], scope: Scope) -> InstrRea
 // One instruction at a reader's place.
 fn instruction<'a>(r: Reader<'a>, kinds: &[u8], scope: Scope) -> InstrRead
     requires { Small scope kinds.now }
-    ensures { result ≡ readInstr (scopeOver scope kinds.now) r.entry.file.now r.entry.at }
+    ensures { result ≡ read_instr (scope_over scope kinds.now) r.entry.file.now r.entry.at }
 {
     read_instr(r.file, Cursor { at: r.at }, kinds, scope)
 }
@@ -67,14 +67,14 @@ fn instruction<'a>(r: Reader<'a>, kinds: &[u8], scope: Scope) -> InstrRead
 // reader.
 fn instr_at(file: &[u8], from: Cursor, kinds: &[u8], scope: Scope) -> InstrRead
     requires { Small scope kinds.now }
-    ensures { result ≡ readInstr (scopeOver scope kinds.now) file.now from.at }
+    ensures { result ≡ read_instr (scope_over scope kinds.now) file.now from.at }
 {
     instruction(reader::after(reader::open(file), from), kinds, scope)
 }
 
 // Why an instruction was not read.
 fn why_instr(read: InstrRead) -> Refusal
-    ensures { result ≡ whyInstr read }
+    ensures { result ≡ why_instr read }
 {
     match read {
         InstrRead::Instr(_, _) => Refusal {
@@ -88,7 +88,7 @@ fn why_instr(read: InstrRead) -> Refusal
 // As many instructions as the scope says.
 fn read_code(file: &[u8], from: Cursor, kinds: &[u8], scope: Scope) -> Code
     requires { Small scope kinds.now }
-    ensures { CodeIs (codeFrom scope.lines (scopeOver scope kinds.now) file.now from.at []) result }
+    ensures { CodeIs (code_from scope.lines (scope_over scope kinds.now) file.now from.at []) result }
 {
     let lines = scope.lines;
     let mut code = blank_code();
@@ -114,7 +114,7 @@ fn read_code(file: &[u8], from: Cursor, kinds: &[u8], scope: Scope) -> Code
 
 // The most instructions of a version.
 fn most_code(version: u8) -> u32
-    ensures { result ≡ mostCode version }
+    ensures { result ≡ most_code version }
 {
     if version == 1 { 1000 } else { 2000 }
 }

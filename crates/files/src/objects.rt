@@ -1,8 +1,8 @@
 // The objects of a file. A loop that fills an array owns it, or is lent it: no array is copied once for each
 // element.
 ghost use Rattle.std.specs.Prelude.{◌≡◌, [], ◌≤◌};
-ghost use Rattle.files.specs.Inside.{whyObject, ObjectsAre, objectsOf};
-ghost use Rattle.files.specs.Parsing.{readObject, refused, objectsFrom};
+ghost use Rattle.files.specs.Inside.{why_object, ObjectsAre, objects_of};
+ghost use Rattle.files.specs.Parsing.{read_object, refused, objects_from};
 
 use super::blank::{blank_bytes, blank_halves};
 use super::fields::{color_at, ranged, size_at, why_read};
@@ -21,7 +21,7 @@ pub struct Objects {
 
 // One object.
 fn read_object(file: &[u8], from: Cursor, version: u8) -> ObjectRead
-    ensures { result ≡ readObject version file.now from.at }
+    ensures { result ≡ read_object version file.now from.at }
 {
     let kind_read = ranged(file, from, 6, 0, 1);
     let Read::Number(kind, past_kind) = kind_read else {
@@ -47,7 +47,7 @@ fn read_object(file: &[u8], from: Cursor, version: u8) -> ObjectRead
 
 // Why an object was not read.
 fn why_object(read: ObjectRead) -> Refusal
-    ensures { result ≡ whyObject read }
+    ensures { result ≡ why_object read }
 {
     match read {
         ObjectRead::Object(_, _) => Refusal {
@@ -61,7 +61,7 @@ fn why_object(read: ObjectRead) -> Refusal
 // `count` objects.
 fn read_objects(file: &[u8], from: Cursor, version: u8, count: usize) -> Objects
     requires { count ≤ 400 }
-    ensures { ObjectsAre (objectsFrom count version file.now from.at []) result }
+    ensures { ObjectsAre (objects_from count version file.now from.at []) result }
 {
     let mut kinds = blank_bytes();
     let mut sizes = blank_halves();
@@ -107,7 +107,7 @@ fn no_objects(q: Refusal) -> Objects
 
 // The version, the count of objects, and the objects.
 pub(crate) fn objects_of(file: &[u8], version: u8) -> Objects
-    ensures { ObjectsAre (objectsOf version file.now) result }
+    ensures { ObjectsAre (objects_of version file.now) result }
 {
     let version_read = ranged(file, Cursor { at: 0 }, 4, version as u32, version as u32);
     let Read::Number(_, past_version) = version_read else {

@@ -1,9 +1,9 @@
 // Reading a whole file: its parts from left to right.
 ghost use Rattle.std.specs.Prelude.{◌≡◌};
 ghost use Rattle.files.specs.Program.{longest};
-ghost use Rattle.files.specs.Reading.{readFile, Reading};
+ghost use Rattle.files.specs.Reading.{read_file, Reading};
 ghost use Rattle.files.specs.Held.{held};
-ghost use Rattle.files.specs.Inside.{whyEnded, whole_of};
+ghost use Rattle.files.specs.Inside.{why_ended, whole_of};
 
 use super::blank::{blank_bytes, blank_code, blank_halves, blank_members};
 use super::lines::{Code, code_of};
@@ -14,7 +14,7 @@ use numbers::Refusal;
 
 // Why a part of a file was not read.
 fn why_ended(ended: Ended) -> Refusal
-    ensures { result ≡ whyEnded ended }
+    ensures { result ≡ why_ended ended }
 {
     match ended {
         Ended::Next(_) => Refusal {
@@ -82,7 +82,7 @@ fn longest_file(version: u8) -> usize
 
 // A file of a version: its parts from left to right, and nothing behind them.
 pub(crate) fn read_file(file: &[u8], version: u8) -> Loaded
-    ensures { result ≡ held (readFile version file.now) }
+    ensures { result ≡ held (read_file version file.now) }
 {
     if longest_file(version) < file.len() {
         return refused_file(Refusal {

@@ -1,8 +1,8 @@
 // The sets of a file: their members stand in one array, one set after the other.
 ghost use Rattle.std.specs.Prelude.{◌≡◌, [], ◌≤◌, length};
 ghost use Rattle.files.specs.Program.{longest};
-ghost use Rattle.files.specs.Inside.{whySet, SetIs, SetsAre, Roomy, no_sets, setsOf};
-ghost use Rattle.files.specs.Parsing.{setsFrom, membersFrom, readSet};
+ghost use Rattle.files.specs.Inside.{why_set, SetIs, SetsAre, Roomy, no_sets, sets_of};
+ghost use Rattle.files.specs.Parsing.{sets_from, members_from, read_set};
 
 use super::Ended;
 use super::blank::{blank_halves, blank_members};
@@ -27,7 +27,7 @@ pub struct Sets {
 
 // Why a set was not read.
 fn why_set(read: SetRead) -> Refusal
-    ensures { result ≡ whySet read }
+    ensures { result ≡ why_set read }
 {
     match read {
         SetRead::Set(_, _) => Refusal {
@@ -49,7 +49,7 @@ fn read_members(
     start: usize,
 ) -> SetRead
     requires { Roomy file.now from.at objects members.old start }
-    ensures { SetIs (membersFrom count objects file.now from.at 0 []) result members.old start members.new }
+    ensures { SetIs (members_from count objects file.now from.at 0 []) result members.old start members.new }
 {
     let mut next = from;
     let mut low = 0;
@@ -70,7 +70,7 @@ fn read_members(
 // One set: the count of its members, and the members.
 fn read_set(file: &[u8], from: Cursor, objects: usize, members: &mut [u16], start: usize) -> SetRead
     requires { Roomy file.now from.at objects members.old start }
-    ensures { SetIs (readSet objects file.now from.at) result members.old start members.new }
+    ensures { SetIs (read_set objects file.now from.at) result members.old start members.new }
 {
     let count_read = ranged(file, from, 5, 1, objects as u32);
     let Read::Number(count, next) = count_read else {
@@ -82,7 +82,7 @@ fn read_set(file: &[u8], from: Cursor, objects: usize, members: &mut [u16], star
 // `count` sets.
 fn read_sets(file: &[u8], from: Cursor, objects: usize, count: usize) -> Sets
     requires { (length file.now ≤ 16384) × (objects ≤ 400) × (count ≤ 400) }
-    ensures { SetsAre (setsFrom count objects file.now from.at []) result }
+    ensures { SetsAre (sets_from count objects file.now from.at []) result }
 {
     let mut ends = blank_halves();
     let mut members = blank_members();
@@ -127,7 +127,7 @@ fn no_sets(ended: Ended) -> Sets
 // The count of sets, and the sets; a file of version 2 has neither.
 pub(crate) fn sets_of(file: &[u8], from: Cursor, version: u8, objects: usize) -> Sets
     requires { (length file.now ≤ longest version) × (objects ≤ 400) }
-    ensures { SetsAre (setsOf version objects file.now from.at) result }
+    ensures { SetsAre (sets_of version objects file.now from.at) result }
 {
     if version != 1 {
         return no_sets(Ended::Next(from));

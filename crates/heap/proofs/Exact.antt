@@ -5,20 +5,20 @@ use mathlib.Core.Path.{◌≡◌, refl, ap}
 use mathlib.Core.List.{List}
 use lib.ListN.{length, replicate}
 use borrow.Author.Tests.{eq-eqb}
-use Rattle.memory.specs.Memory.{memorySize, tableSize}
-use Rattle.memory.proofs.Exact.{is-exact}
-use Rattle.heap.specs.Heap.{alloc, free, emptyHeap}
-use Rattle.heap.specs.Lent.{afterAlloc, allocated, afterFree, released, started}
+use Rattle.memory.specs.Memory.{memory_size, table_size}
+use Rattle.memory.proofs.Exact.{is_exact}
+use Rattle.heap.specs.Heap.{alloc, free, empty_heap}
+use Rattle.heap.specs.Lent.{after_alloc, allocated, after_free, released, started}
 
-pub started-exact : (m : List ℕ) → length m ≡ memorySize → started m ≡ emptyHeap (replicate memorySize 0)
+pub started_exact : (m : List ℕ) → length m ≡ memory_size → started m ≡ empty_heap (replicate memory_size 0)
 unfolding started
-started-exact m h = rw (eq-eqb (length m) memorySize h, started) (ap (λ n. emptyHeap (replicate n 0)) h)
+started_exact m h = rw (eq-eqb (length m) memory_size h, started) (ap (λ n. empty_heap (replicate n 0)) h)
 
-module _ (m t : List ℕ) (hm : length m ≡ memorySize) (ht : length t ≡ tableSize) where
-  pub allocated-exact : (size site color : ℕ) → allocated m t size site color ≡ afterAlloc m t color (alloc m size site)
+module _ (m t : List ℕ) (hm : length m ≡ memory_size) (ht : length t ≡ table_size) where
+  pub allocated_exact : (size site color : ℕ) → allocated m t size site color ≡ after_alloc m t color (alloc m size site)
   unfolding allocated
-  allocated-exact size site color = rw (is-exact m t hm ht, allocated) refl
+  allocated_exact size site color = rw (is_exact m t hm ht, allocated) refl
 
-  pub released-exact : (address : ℕ) → released m t address ≡ afterFree m t (free m address)
+  pub released_exact : (address : ℕ) → released m t address ≡ after_free m t (free m address)
   unfolding released
-  released-exact address = rw (is-exact m t hm ht, released) refl
+  released_exact address = rw (is_exact m t hm ht, released) refl

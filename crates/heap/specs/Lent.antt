@@ -4,26 +4,26 @@
 use Rattle.std.specs.Prelude.{ℕ, List, [], ◌∷◌, true, false, length, replicate, eqb}
 use Rattle.heap.specs.declared.Allocation.{Allocation}
 use Rattle.heap.specs.declared.Release.{Release}
-use Rattle.memory.specs.Memory.{memorySize, exact}
-use Rattle.heap.specs.Heap.{Made, Freed, Alloc, Free, alloc, free, paintMade, paintFreed, emptyHeap}
+use Rattle.memory.specs.Memory.{memory_size, exact}
+use Rattle.heap.specs.Heap.{Made, Freed, Alloc, Free, alloc, free, paint_made, paint_freed, empty_heap}
 
 -- ---- the answers, by 01's numbers and values; 0 where the run goes on
 
 -- "11 | memory or table not of its exact length", "38 unsound heap", or the address of the body, if there is one
-abbrev pub madeFor : (bodies : List ℕ) → Allocation
-madeFor [] = Allocation.Nothing
-madeFor (body ∷ none) = Allocation.Made body
+abbrev pub made_for : (bodies : List ℕ) → Allocation
+made_for [] = Allocation.Nothing
+made_for (body ∷ none) = Allocation.Made body
 
-abbrev pub allocationFor : (number : ℕ) (bodies : List ℕ) → Allocation
-allocationFor number bodies =
+abbrev pub allocation_for : (number : ℕ) (bodies : List ℕ) → Allocation
+allocation_for number bodies =
     elim (eqb number 11) [
       | true ↦ Allocation.WrongLength
-      | false ↦ elim (eqb number 38) [ true ↦ Allocation.Unsound | false ↦ madeFor bodies ]
+      | false ↦ elim (eqb number 38) [ true ↦ Allocation.Unsound | false ↦ made_for bodies ]
     ]
 
 -- 11, "37 bad FREE", 38
-abbrev pub releaseFor : (number : ℕ) → Release
-releaseFor number =
+abbrev pub release_for : (number : ℕ) → Release
+release_for number =
     elim (eqb number 11) [
       | true ↦ Release.WrongLength
       | false ↦ elim (eqb number 37) [ true ↦ Release.Bad | false ↦ elim (eqb number 38) [ true ↦ Release.Unsound | false ↦ Release.Freed ] ]
@@ -38,34 +38,34 @@ pub record After (Answer : Type 0) : Type 0 where
 -- ---- ALLOC
 
 -- the site's color is handed in
-abbrev pub afterAlloc : (memory table : List ℕ) → (color : ℕ) → Alloc → After Allocation
-afterAlloc m t color Alloc.stopped = record { answer = allocationFor 38 []; memory = m; table = t }
-afterAlloc m t color Alloc.nothing = record { answer = allocationFor 0 []; memory = m; table = t }
-afterAlloc m t color (Alloc.made k) =
-    record { answer = allocationFor 0 (k.body ∷ []); memory = k.memory; table = paintMade t color k }
+abbrev pub after_alloc : (memory table : List ℕ) → (color : ℕ) → Alloc → After Allocation
+after_alloc m t color Alloc.stopped = record { answer = allocation_for 38 []; memory = m; table = t }
+after_alloc m t color Alloc.nothing = record { answer = allocation_for 0 []; memory = m; table = t }
+after_alloc m t color (Alloc.made k) =
+    record { answer = allocation_for 0 (k.body ∷ []); memory = k.memory; table = paint_made t color k }
 
 unfoldable pub allocated : (memory table : List ℕ) → (size site color : ℕ) → After Allocation
 allocated m t size site color =
     elim (exact m t) [
-      | true ↦ afterAlloc m t color (alloc m size site)
-      | false ↦ record { answer = allocationFor 11 []; memory = m; table = t }
+      | true ↦ after_alloc m t color (alloc m size site)
+      | false ↦ record { answer = allocation_for 11 []; memory = m; table = t }
     ]
 
 -- ---- FREE
 
-abbrev pub afterFree : (memory table : List ℕ) → Free → After Release
-afterFree m t Free.stopped = record { answer = releaseFor 38; memory = m; table = t }
-afterFree m t Free.bad = record { answer = releaseFor 37; memory = m; table = t }
-afterFree m t (Free.freed f) = record { answer = releaseFor 0; memory = f.memory; table = paintFreed t f }
+abbrev pub after_free : (memory table : List ℕ) → Free → After Release
+after_free m t Free.stopped = record { answer = release_for 38; memory = m; table = t }
+after_free m t Free.bad = record { answer = release_for 37; memory = m; table = t }
+after_free m t (Free.freed f) = record { answer = release_for 0; memory = f.memory; table = paint_freed t f }
 
 unfoldable pub released : (memory table : List ℕ) → (address : ℕ) → After Release
 released m t address =
     elim (exact m t) [
-      | true ↦ afterFree m t (free m address)
-      | false ↦ record { answer = releaseFor 11; memory = m; table = t }
+      | true ↦ after_free m t (free m address)
+      | false ↦ record { answer = release_for 11; memory = m; table = t }
     ]
 
 -- ---- the start: "Memory and table are cleared and laid out at the start"
 
 unfoldable pub started : List ℕ → List ℕ
-started m = elim (eqb (length m) memorySize) [ true ↦ emptyHeap (replicate (length m) 0) | false ↦ m ]
+started m = elim (eqb (length m) memory_size) [ true ↦ empty_heap (replicate (length m) 0) | false ↦ m ]

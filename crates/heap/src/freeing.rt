@@ -1,9 +1,9 @@
 // FREE: a walk over all headers that remembers where the joined block would start, then it is joined.
 ghost use Rattle.std.specs.Prelude.{◌≡◌, ◌+◌, ◌-◌, ◌≤◌, ◌<◌, ◌^◌, length};
-ghost use Rattle.memory.specs.Memory.{memorySize, paint};
-ghost use Rattle.heap.specs.Heap.{endSlot, walk, putHeader};
+ghost use Rattle.memory.specs.Memory.{memory_size, paint};
+ghost use Rattle.heap.specs.Heap.{end_slot, walk, put_header};
 ghost use Rattle.heap.specs.Lent.{released};
-ghost use Rattle.heap.specs.Search.{spare_of, spareAt, start_of, live_in, whole_of, Joining};
+ghost use Rattle.heap.specs.Search.{spare_of, spare_at, start_of, live_in, whole_of, Joining};
 
 use crate::headers::{is_sound, mark_at, put_header, size_at};
 use crate::{END, HEAP, MEMORY, Release, Search, TABLE};
@@ -23,7 +23,7 @@ fn spare_of(size: usize, mark: u32) -> usize
 // Where the joined block would start: known before, or at this block where it is live and its body
 // is at the address; `spare` is what the block before adds.
 fn start_of(start: usize, spare: usize, address: usize, header: usize, mark: u32) -> usize
-    requires { (spare ≤ header) × (header ≤ endSlot) }
+    requires { (spare ≤ header) × (header ≤ end_slot) }
     ensures { result ≡ start_of start spare address (record { header = header; size = 0; mark = mark }) }
 {
     if header + 8 != address {
@@ -38,7 +38,7 @@ fn start_of(start: usize, spare: usize, address: usize, header: usize, mark: u32
 // All headers up to the end slot are walked; an unsound one stops it. Found is where the block that
 // is live at the address starts when it is joined with a free one before it.
 fn find_live(memory: &[u8], address: usize) -> Search
-    requires { length memory.now ≡ memorySize }
+    requires { length memory.now ≡ memory_size }
     ensures { result ≡ live_in 0 0 address (walk memory.now) }
 {
     let mut start = 0;
@@ -59,8 +59,8 @@ fn find_live(memory: &[u8], address: usize) -> Search
 
 // What the block behind adds; the end slot is none.
 fn spare_at(memory: &[u8], header: usize) -> usize
-    requires { (length memory.now ≡ memorySize) × (header ≤ endSlot) }
-    ensures { result ≡ spareAt memory.now header }
+    requires { (length memory.now ≡ memory_size) × (header ≤ end_slot) }
+    ensures { result ≡ spare_at memory.now header }
 {
     if header == END {
         return 0;
@@ -74,7 +74,7 @@ fn spare_at(memory: &[u8], header: usize) -> usize
 // block behind it. All slots of the joined body get color 0.
 fn join(memory: &mut [u8], table: &mut [u8], start: usize, address: usize)
     requires { Joining memory.old table.old start address }
-    ensures memory_after { memory.new ≡ putHeader memory.old start (whole_of memory.old start address) 0 }
+    ensures memory_after { memory.new ≡ put_header memory.old start (whole_of memory.old start address) 0 }
     ensures table_after { table.new ≡ paint table.old (start + 8) (whole_of memory.old start address) 0 }
 {
     let size = size_at(memory, address - 8) as usize;

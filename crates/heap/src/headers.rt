@@ -1,7 +1,7 @@
 // Headers of blocks, and the heap as it is at the start.
 ghost use Rattle.std.specs.Prelude.{◌≡◌, ◌+◌, ◌≤◌, ◌%◌, ◌<◌, length};
-ghost use Rattle.memory.specs.Memory.{memorySize, number_at};
-ghost use Rattle.heap.specs.Heap.{endSlot, sound, putHeader};
+ghost use Rattle.memory.specs.Memory.{memory_size, number_at};
+ghost use Rattle.heap.specs.Heap.{end_slot, sound, put_header};
 ghost use Rattle.heap.specs.Lent.{started};
 
 use crate::{END, HEAP, MEMORY};
@@ -9,7 +9,7 @@ use memory::bytes::{fill, number_at, store32};
 
 // The size of the body behind a header.
 pub(crate) fn size_at(memory: &[u8], header: usize) -> u32
-    requires { (length memory.now ≡ memorySize) × (header ≤ endSlot) }
+    requires { (length memory.now ≡ memory_size) × (header ≤ end_slot) }
     ensures { result ≡ number_at 4 memory.now header }
 {
     number_at(memory, header as u32)
@@ -17,7 +17,7 @@ pub(crate) fn size_at(memory: &[u8], header: usize) -> u32
 
 // The mark of a header.
 pub(crate) fn mark_at(memory: &[u8], header: usize) -> u32
-    requires { (length memory.now ≡ memorySize) × (header ≤ endSlot) }
+    requires { (length memory.now ≡ memory_size) × (header ≤ end_slot) }
     ensures { result ≡ number_at 4 memory.now (header + 4) }
 {
     number_at(memory, header as u32 + 4)
@@ -25,8 +25,8 @@ pub(crate) fn mark_at(memory: &[u8], header: usize) -> u32
 
 // A header of a body's size and a mark.
 pub(crate) fn put_header(memory: &mut [u8], header: usize, size: u32, mark: u32)
-    requires { (length memory.old ≡ memorySize) × (header ≤ endSlot) }
-    ensures { memory.new ≡ putHeader memory.old header size mark }
+    requires { (length memory.old ≡ memory_size) × (header ≤ end_slot) }
+    ensures { memory.new ≡ put_header memory.old header size mark }
 {
     store32(memory, header as u32, size);
     store32(memory, header as u32 + 4, mark);

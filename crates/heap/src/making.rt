@@ -1,9 +1,9 @@
 // ALLOC: a walk over all headers that remembers the first fit, then the block is cut and handed out.
 ghost use Rattle.std.specs.Prelude.{◌≡◌, ◌+◌, ◌≤◌, length};
-ghost use Rattle.memory.specs.Memory.{memorySize, tableSize, paint};
-ghost use Rattle.heap.specs.Heap.{Made, endSlot, block_at, walk, handOut, takeBlock, paintMade};
+ghost use Rattle.memory.specs.Memory.{memory_size, table_size, paint};
+ghost use Rattle.heap.specs.Heap.{Made, end_slot, block_at, walk, hand_out, take_block, paint_made};
 ghost use Rattle.heap.specs.Lent.{allocated};
-ghost use Rattle.heap.specs.Search.{first_of, fitIn, Fitting};
+ghost use Rattle.heap.specs.Search.{first_of, fit_in, Fitting};
 
 use crate::headers::{is_sound, mark_at, put_header, size_at};
 use crate::{Allocation, END, HEAP, MEMORY, Search, TABLE};
@@ -30,8 +30,8 @@ fn first_of(found: usize, want: usize, header: usize, size: usize, mark: u32) ->
 // All headers up to the end slot are walked; an unsound one stops it. Found is the first free block
 // that holds the size.
 fn first_fit(memory: &[u8], want: usize) -> Search
-    requires { length memory.now ≡ memorySize }
-    ensures { result ≡ fitIn 0 want (walk memory.now) }
+    requires { length memory.now ≡ memory_size }
+    ensures { result ≡ fit_in 0 want (walk memory.now) }
 {
     let mut found = 0;
     let mut at = HEAP;
@@ -57,10 +57,10 @@ fn hand_out(
     mark: u32,
     color: u8,
 ) -> u32
-    requires memory_len { (length memory.old ≡ memorySize) × (length table.old ≡ tableSize) }
-    requires size_bound { header + 8 + size ≤ endSlot }
+    requires memory_len { (length memory.old ≡ memory_size) × (length table.old ≡ table_size) }
+    requires size_bound { header + 8 + size ≤ end_slot }
     ensures value { result ≡ header + 8 }
-    ensures memory_after { memory.new ≡ handOut memory.old header size mark }
+    ensures memory_after { memory.new ≡ hand_out memory.old header size mark }
     ensures table_after { table.new ≡ paint table.old (header + 8) size color }
 {
     let body = header + 8;
@@ -83,9 +83,9 @@ fn take_block(
     color: u8,
 ) -> u32
     requires { Fitting memory.old table.old header want }
-    ensures value { result ≡ (takeBlock memory.old (block_at memory.old header) want mark).body }
-    ensures memory_after { memory.new ≡ (takeBlock memory.old (block_at memory.old header) want mark).memory }
-    ensures table_after { table.new ≡ paintMade table.old color (takeBlock memory.old (block_at memory.old header) want mark) }
+    ensures value { result ≡ (take_block memory.old (block_at memory.old header) want mark).body }
+    ensures memory_after { memory.new ≡ (take_block memory.old (block_at memory.old header) want mark).memory }
+    ensures table_after { table.new ≡ paint_made table.old color (take_block memory.old (block_at memory.old header) want mark) }
 {
     let size = size_at(memory, header) as usize;
     if size < want + 16 {

@@ -4,9 +4,9 @@
 -- caller.
 --
 -- About the definitions, for the crates above: an instruction and its parts are two forms of one thing
--- (`Parting.parts-make`, `Parting.make-parts`); two functions of an instruction that give the same for each opcode
+-- (`Parting.parts_make`, `Parting.make_parts`); two functions of an instruction that give the same for each opcode
 -- are equal (`Tables.agree`); an instruction of version 2 asks what its instruction asks, but for target and set
--- (`Moving.view-moved`); and operands in their ranges are held whole (`Whole.made-whole`).
+-- (`Moving.view_moved`); and operands in their ranges are held whole (`Whole.made_whole`).
 pub mod Parting
 pub mod Tables
 pub mod Moving

@@ -2,17 +2,17 @@
 use Prim.Native.Nat.{ℕ}
 use mathlib.Core.Path.{◌≡◌, refl}
 use Rattle.opcodes.specs.declared.Instr.{Instr}
-use Rattle.opcodes.specs.View.{View, act, jump, jumpIf, store, check, view}
+use Rattle.opcodes.specs.View.{View, act, jump, jump_if, store, check, view}
 use Rattle.instructions.specs.Moved.{moved}
 use Rattle.instructions.proofs.Tables.{agree}
 
 -- what an instruction is in version 2
-abbrev pub movedView : (target : ℕ → ℕ) → View → View
-movedView target (act x) = act x
-movedView target (jump t) = jump (target t)
-movedView target (jumpIf a t) = jumpIf a (target t)
-movedView target (store aim b s) = store aim b 0
-movedView target (check aim c) = check aim c
+abbrev pub moved_view : (target : ℕ → ℕ) → View → View
+moved_view target (act x) = act x
+moved_view target (jump t) = jump (target t)
+moved_view target (jump_if a t) = jump_if a (target t)
+moved_view target (store aim b s) = store aim b 0
+moved_view target (check aim c) = check aim c
 
-pub view-moved : (target : ℕ → ℕ) (i : Instr) → view (moved target i) ≡ movedView target (view i)
-view-moved target = agree (λ i. view (moved target i)) (λ i. movedView target (view i)) (λ ns. refl)
+pub view_moved : (target : ℕ → ℕ) (i : Instr) → view (moved target i) ≡ moved_view target (view i)
+view_moved target = agree (λ i. view (moved target i)) (λ i. moved_view target (view i)) (λ ns. refl)

@@ -12,9 +12,9 @@ use types.Run.{OneOf, miss}
 use mir.Val.{has_key}
 use denote.Enum.Declared.{tag_of}
 use Rattle.opcodes.specs.declared.Instr.{Instr}
-use Rattle.opcodes.specs.Table.{makers, make, numbersOf, parts_of}
+use Rattle.opcodes.specs.Table.{makers, make, numbers_of, parts_of}
 use Rattle.opcodes.specs.contracts.Instr.{the_type}
-use Rattle.instructions.proofs.Parting.{make-parts}
+use Rattle.instructions.proofs.Parting.{make_parts}
 
 module _ {A : Type 0} where
   -- what a function gives for n numbers
@@ -35,11 +35,11 @@ module _ {A : Type 0} where
   past f op ns h = ap (λ (m : List ℕ → Instr). f (m ns)) (get_or-eq_default makers (λ (ns : List ℕ). Instr.End) h)
 
   -- what a function gives for an instruction of each opcode
-  abbrev pub perOpcode : (Instr → A) → List ℕ → List A
-  perOpcode f ns = table (λ op. f (make op ns)) 0 (length makers)
+  abbrev pub per_opcode : (Instr → A) → List ℕ → List A
+  per_opcode f ns = table (λ op. f (make op ns)) 0 (length makers)
 
-  pub agree : (f g : Instr → A) → ((ns : List ℕ) → perOpcode f ns ≡ perOpcode g ns) → (i : Instr) → f i ≡ g i
-  agree f g e i = ap f (sym (make-parts i)) ∙ made (parts_of i).op (numbersOf (parts_of i)) ∙ ap g (make-parts i)
+  pub agree : (f g : Instr → A) → ((ns : List ℕ) → per_opcode f ns ≡ per_opcode g ns) → (i : Instr) → f i ≡ g i
+  agree f g e i = ap f (sym (make_parts i)) ∙ made (parts_of i).op (numbers_of (parts_of i)) ∙ ap g (make_parts i)
     where
       made : (op : ℕ) (ns : List ℕ) → f (make op ns) ≡ g (make op ns)
       made op ns =
@@ -50,7 +50,7 @@ module _ {A : Type 0} where
 
   -- the same for the opcodes that an arm of a match takes
   pub agree_on : (keys : List ℕ) (f g : Instr → A)
-      → ((ns : List ℕ) → perOpcode f ns ≡ perOpcode (λ i. elim (has_key keys (tag_of the_type i)) [ true ↦ g i | false ↦ f i ]) ns)
+      → ((ns : List ℕ) → per_opcode f ns ≡ per_opcode (λ i. elim (has_key keys (tag_of the_type i)) [ true ↦ g i | false ↦ f i ]) ns)
       → (i : Instr) → OneOf keys (tag_of the_type i) → f i ≡ g i
   agree_on keys f g e i h = agree f (λ i. elim (has_key keys (tag_of the_type i)) [ true ↦ g i | false ↦ f i ]) e i ∙ go (has_key keys (tag_of the_type i)) refl
     where

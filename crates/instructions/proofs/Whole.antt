@@ -5,7 +5,7 @@ use mathlib.Core.List.{List, [], ◌∷◌, map}
 use native.Mathlib.Omega.{arith}
 use lib.ListN.{length}
 use Rattle.opcodes.specs.declared.Operand.{Operand}
-use Rattle.opcodes.specs.Table.{rowOf, operandsOf, make, named, Each}
+use Rattle.opcodes.specs.Table.{row_of, operands_of, make, named, Each}
 use Rattle.instructions.specs.Making.{fit, made}
 
 abbrev pub roof : Operand → ℕ
@@ -40,5 +40,5 @@ all_fit [] (n ∷ ns) e u = absurd (omega arith)
 all_fit (kind ∷ kinds) [] e u = absurd (omega arith)
 all_fit (kind ∷ kinds) (n ∷ ns) e u = ap₂ (λ (m : ℕ) (ms : List ℕ). m ∷ ms) (fits kind n u.0) (all_fit kinds ns (omega arith) u.1)
 
-pub made-whole : (op : ℕ) (ns : List ℕ) → 4 ≡ length ns → Each Under (named (operandsOf (rowOf op)) ns) → made op ns ≡ make op ns
-made-whole op ns e u = ap (make op) (all_fit (operandsOf (rowOf op)) ns e u)
+pub made_whole : (op : ℕ) (ns : List ℕ) → 4 ≡ length ns → Each Under (named (operands_of (row_of op)) ns) → made op ns ≡ make op ns
+made_whole op ns e u = ap (make op) (all_fit (operands_of (row_of op)) ns e u)

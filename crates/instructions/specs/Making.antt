@@ -3,7 +3,7 @@
 use Rattle.std.specs.Prelude.{ℕ, ◌%◌, List, map}
 use Rattle.opcodes.specs.declared.Operand.{Operand}
 use Rattle.opcodes.specs.declared.Instr.{Instr}
-use Rattle.opcodes.specs.Table.{rowOf, operandsOf, make, named}
+use Rattle.opcodes.specs.Table.{row_of, operands_of, make, named}
 
 -- what the field of an operand of each kind holds of a number: all of one that a file can say there
 abbrev pub fit : Operand → ℕ → ℕ
@@ -19,4 +19,4 @@ fit Operand.Color n = n % 256
 
 -- the same instruction where the operands are any numbers
 abbrev pub made : (op : ℕ) → List ℕ → Instr
-made op ns = make op (map (λ o. fit o.0 o.1) (named (operandsOf (rowOf op)) ns))
+made op ns = make op (map (λ o. fit o.0 o.1) (named (operands_of (row_of op)) ns))

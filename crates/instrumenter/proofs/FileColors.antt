@@ -6,24 +6,24 @@ use mathlib.Core.Bool.{true, false}
 use lib.ListN.{length}
 use borrow.Author.Tests.{leb-true}
 use Rattle.files.specs.Program.{Program}
-use Rattle.files.specs.Writing.{goodProgram}
-use Rattle.safety.specs.Unsafe.{unsafeSets}
-use Rattle.coloring.specs.Class.{unsafeObject}
-use Rattle.coloring.specs.Colored.{colorIn, classCount, fewClasses}
-use Rattle.coloring.proofs.Colors.{color-safe, color-low, color-high}
-use Rattle.coloring.proofs.Bounds.{unsafe-below}
+use Rattle.files.specs.Writing.{good_program}
+use Rattle.safety.specs.Unsafe.{unsafe_sets}
+use Rattle.coloring.specs.Class.{unsafe_object}
+use Rattle.coloring.specs.Colored.{color_in, class_count, few_classes}
+use Rattle.coloring.proofs.Colors.{color_safe, color_low, color_high}
+use Rattle.coloring.proofs.Bounds.{unsafe_below}
 use Rattle.files.proofs.RoundTrip.{good_of}
 
 pub record FileColors (sets : List (List ℕ)) (color : ℕ → ℕ) : Type 0 where
-  pub safe : (x : ℕ) → unsafeObject sets x ≡ false → color x ≡ 0
-  pub low : (x : ℕ) → unsafeObject sets x ≡ true → 2 ≤ color x
+  pub safe : (x : ℕ) → unsafe_object sets x ≡ false → color x ≡ 0
+  pub low : (x : ℕ) → unsafe_object sets x ≡ true → 2 ≤ color x
   pub high : (x : ℕ) → color x ≤ 255
 
-pub file-colors : (p : Program) → goodProgram 1 p ≡ true → fewClasses p ≡ true → FileColors (unsafeSets p) (colorIn p)
-file-colors p good few =
-    let sets = unsafeSets p in
+pub file_colors : (p : Program) → good_program 1 p ≡ true → few_classes p ≡ true → FileColors (unsafe_sets p) (color_in p)
+file_colors p good few =
+    let sets = unsafe_sets p in
     record {
-      safe = color-safe sets;
-      low = color-low sets;
-      high = color-high sets (length p.objects) (leb-true (classCount p) 254 few) (unsafe-below p (good_of 1 p good));
+      safe = color_safe sets;
+      low = color_low sets;
+      high = color_high sets (length p.objects) (leb-true (class_count p) 254 few) (unsafe_below p (good_of 1 p good));
     }

@@ -6,30 +6,30 @@ use mathlib.Core.List.{List, [], ◌∷◌, ◌++◌, map}
 use mathlib.Core.Bool.{true, false}
 use lib.ListN.{length, get_or}
 use Rattle.files.specs.Program.{Program}
-use Rattle.opcodes.specs.View.{Aim, inGlobal, atTemp, store}
-use Rattle.safety.specs.Unsafe.{safeAim, setOf, Unsafe, unsafeSet}
-use Rattle.safety.proofs.Stores.{unsafe-one}
-use Rattle.coloring.specs.Class.{holds, unsafeObject}
-use Rattle.coloring.proofs.Members.{some-here, holds-here, holds_at}
+use Rattle.opcodes.specs.View.{Aim, in_global, at_temp, store}
+use Rattle.safety.specs.Unsafe.{safe_aim, set_of, Unsafe, unsafe_set}
+use Rattle.safety.proofs.Stores.{unsafe_one}
+use Rattle.coloring.specs.Class.{holds, unsafe_object}
+use Rattle.coloring.proofs.Members.{some_here, holds_here, holds_at}
 use Rattle.coloring.proofs.Bounds.{member_below}
 use Rattle.files.proofs.GoodInstructions.{NamesAim}
-use Rattle.files.proofs.RoundTrip.{Good, set-some}
+use Rattle.files.proofs.RoundTrip.{Good, set_some}
 
 module _ (p : Program) (good : Good 1 p) where
-  pub first-held : (aim : Aim) (s : ℕ) → NamesAim p aim s → holds (setOf p aim s) (get_or (setOf p aim s) 0 0) ≡ true
-  first-held (inGlobal g k w) s l = holds-here g []
-  first-held (atTemp a w) s l = holds_at (get_or p.sets s []) 0 (set-some p good s l)
+  pub first_held : (aim : Aim) (s : ℕ) → NamesAim p aim s → holds (set_of p aim s) (get_or (set_of p aim s) 0 0) ≡ true
+  first_held (in_global g k w) s l = holds_here g []
+  first_held (at_temp a w) s l = holds_at (get_or p.sets s []) 0 (set_some p good s l)
 
-  pub first_below : (aim : Aim) (s : ℕ) → NamesAim p aim s → get_or (setOf p aim s) 0 0 < length p.objects
-  first_below (inGlobal g k w) s l = l.0
-  first_below (atTemp a w) s l =
-      member_below p good s (get_or (get_or p.sets s []) 0 0) l (first-held (atTemp a w) s l)
+  pub first_below : (aim : Aim) (s : ℕ) → NamesAim p aim s → get_or (set_of p aim s) 0 0 < length p.objects
+  first_below (in_global g k w) s l = l.0
+  first_below (at_temp a w) s l =
+      member_below p good s (get_or (get_or p.sets s []) 0 0) l (first_held (at_temp a w) s l)
 
-  set-unsafe : (aim : Aim) (b s : ℕ) → safeAim p aim ≡ false → unsafeSet p (store aim b s) ≡ setOf p aim s ∷ []
-  set-unsafe aim b s e = ap (map (λ (u : Unsafe). u.set)) (unsafe-one p aim b s e)
+  set_unsafe : (aim : Aim) (b s : ℕ) → safe_aim p aim ≡ false → unsafe_set p (store aim b s) ≡ set_of p aim s ∷ []
+  set_unsafe aim b s e = ap (map (λ (u : Unsafe). u.set)) (unsafe_one p aim b s e)
 
   -- the first object of an unsafe store's set is unsafe
-  pub store-unsafe : (aim : Aim) (b s : ℕ) (rest : List (List ℕ)) → NamesAim p aim s → safeAim p aim ≡ false
-      → unsafeObject (unsafeSet p (store aim b s) ++ rest) (get_or (setOf p aim s) 0 0) ≡ true
-  store-unsafe aim b s rest g e =
-      rw (set-unsafe aim b s e) (some-here (λ t. holds t (get_or (setOf p aim s) 0 0)) (setOf p aim s) rest (first-held aim s g))
+  pub store_unsafe : (aim : Aim) (b s : ℕ) (rest : List (List ℕ)) → NamesAim p aim s → safe_aim p aim ≡ false
+      → unsafe_object (unsafe_set p (store aim b s) ++ rest) (get_or (set_of p aim s) 0 0) ≡ true
+  store_unsafe aim b s rest g e =
+      rw (set_unsafe aim b s e) (some_here (λ t. holds t (get_or (set_of p aim s) 0 0)) (set_of p aim s) rest (first_held aim s g))

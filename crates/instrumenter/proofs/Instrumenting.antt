@@ -8,50 +8,50 @@ use lib.ListN.{length}
 use lib.Dec.{leb}
 use borrow.Author.Tests.{le-leb, lt-ltb, ltb-true}
 use Rattle.opcodes.specs.Ranges.{within}
-use Rattle.files.specs.Program.{Program, kindsOf}
-use Rattle.files.specs.Writing.{every, goodObject, goodInstr, scope_of, goodProgram, spellFile}
-use Rattle.safety.specs.Unsafe.{unsafeSets}
-use Rattle.coloring.specs.Colored.{tinted, colorIn, fewClasses}
-use Rattle.coloring.proofs.Tinted.{tinted-length}
-use Rattle.instrumenter.specs.Instrumented.{checksOf, guarded, newPlace, instrumented}
+use Rattle.files.specs.Program.{Program, kinds_of}
+use Rattle.files.specs.Writing.{every, good_object, good_instr, scope_of, good_program, spell_file}
+use Rattle.safety.specs.Unsafe.{unsafe_sets}
+use Rattle.coloring.specs.Colored.{tinted, color_in, few_classes}
+use Rattle.coloring.proofs.Tinted.{tinted_length}
+use Rattle.instrumenter.specs.Instrumented.{checks_of, guarded, new_place, instrumented}
 use Rattle.files.proofs.Tests.{both_true}
-use Rattle.files.proofs.RoundTrip.{Good, good_of, lines-bounds}
-use Rattle.opcodes.proofs.Bounds.{within-true}
-use Rattle.instrumenter.proofs.FileColors.{FileColors, file-colors}
-use Rattle.instrumenter.proofs.Spans.{length-guarded, span-most, span-least, place_inside}
-use Rattle.instrumenter.proofs.Operands.{in-range, is-color, good-tinted, kinds-tinted, newScope, good-guarded}
-use Rattle.instrumenter.proofs.Lengths.{file-longer}
+use Rattle.files.proofs.RoundTrip.{Good, good_of, lines_bounds}
+use Rattle.opcodes.proofs.Bounds.{within_true}
+use Rattle.instrumenter.proofs.FileColors.{FileColors, file_colors}
+use Rattle.instrumenter.proofs.Spans.{length-guarded, span_most, span_least, place_inside}
+use Rattle.instrumenter.proofs.Operands.{in_range, is_color_lem, good_tinted, kinds_tinted, new_scope, good_guarded}
+use Rattle.instrumenter.proofs.Lengths.{file_longer}
 
-module _ (p : Program) (color : ℕ → ℕ) (good : goodProgram 1 p ≡ true) (colors : FileColors (unsafeSets p) color) where
-  pub colored-good : goodProgram 2 (instrumented color p) ≡ true
-  unfolding goodProgram instrumented
-  colored-good =
+module _ (p : Program) (color : ℕ → ℕ) (good : good_program 1 p ≡ true) (colors : FileColors (unsafe_sets p) color) where
+  pub colored_good : good_program 2 (instrumented color p) ≡ true
+  unfolding good_program instrumented
+  colored_good =
       let r : Good 1 p = good_of 1 p good in
-      let lines = lines-bounds p r in
-      let code = guarded (checksOf color p) (newPlace color p) p.code in
+      let lines = lines_bounds p r in
+      let code = guarded (checks_of color p) (new_place color p) p.code in
       let objects = tinted color 0 p.objects in
-      let kinds : kindsOf objects ≡ kindsOf p.objects = kinds-tinted color 0 p.objects in
+      let kinds : kinds_of objects ≡ kinds_of p.objects = kinds_tinted color 0 p.objects in
       let scope = scope_of 2 (instrumented color p) in
-      let a : leb (length objects) 400 ≡ true = le-leb (length objects) 400 (rw tinted-length r.objects-most) in
-      let b : every (goodObject 2) objects ≡ true = good-tinted color (is-color p color colors) 0 p.objects r.objects in
-      let upto : length code ≤ 2000 = omega (arith, length-guarded (checksOf color p) (newPlace color p) p.code, span-most color p p.code, lines.1) in
-      let from : 1 ≤ length code = omega (arith, length-guarded (checksOf color p) (newPlace color p) p.code, span-least color p p.code, lines.0) in
-      let d : within 1 2000 (length code) ≡ true = within-true 1 2000 (length code) from upto in
-      let e : every (goodInstr (newScope p (length code))) code ≡ true =
-      good-guarded p r (length code) (newPlace color p)
-      (λ t h. lt-ltb (newPlace color p t) (length code) (place_inside color p (newPlace color p) t (ltb-true t (length p.code) h)))
-      color p.code r.code (in-range p color colors)
+      let a : leb (length objects) 400 ≡ true = le-leb (length objects) 400 (rw tinted_length r.objects_most) in
+      let b : every (good_object 2) objects ≡ true = good_tinted color (is_color_lem p color colors) 0 p.objects r.objects in
+      let upto : length code ≤ 2000 = omega (arith, length-guarded (checks_of color p) (new_place color p) p.code, span_most color p p.code, lines.1) in
+      let from : 1 ≤ length code = omega (arith, length-guarded (checks_of color p) (new_place color p) p.code, span_least color p p.code, lines.0) in
+      let d : within 1 2000 (length code) ≡ true = within_true 1 2000 (length code) from upto in
+      let e : every (good_instr (new_scope p (length code))) code ≡ true =
+      good_guarded p r (length code) (new_place color p)
+      (λ t h. lt-ltb (new_place color p t) (length code) (place_inside color p (new_place color p) t (ltb-true t (length p.code) h)))
+      color p.code r.code (in_range p color colors)
       in
-      let e' : every (goodInstr scope) code ≡ true =
-      mathlib.Core.Path.subst (λ (ks : List ℕ). every (goodInstr (record { version = 2; kinds = ks; sets = 0; code = length code })) code ≡ true) (sym kinds) e
+      let e' : every (good_instr scope) code ≡ true =
+      mathlib.Core.Path.subst (λ (ks : List ℕ). every (good_instr (record { version = 2; kinds = ks; sets = 0; code = length code })) code ≡ true) (sym kinds) e
       in
-      let l : length (spellFile 2 (instrumented color p)) ≤ 32768 = omega (arith, file-longer color colors.high p, r.objects-most, lines.1, r.short) in
-      let f : leb (length (spellFile 2 (instrumented color p))) 32768 ≡ true = le-leb (length (spellFile 2 (instrumented color p))) 32768 l in
+      let l : length (spell_file 2 (instrumented color p)) ≤ 32768 = omega (arith, file_longer color colors.high p, r.objects_most, lines.1, r.short) in
+      let f : leb (length (spell_file 2 (instrumented color p))) 32768 ≡ true = le-leb (length (spell_file 2 (instrumented color p))) 32768 l in
       both_true (leb (length objects) 400) _ a
-      (both_true (every (goodObject 2) objects) _ b
+      (both_true (every (good_object 2) objects) _ b
       (both_true (within 1 2000 (length code)) _ d
-      (both_true (every (goodInstr scope) code) _ e' f)))
+      (both_true (every (good_instr scope) code) _ e' f)))
 
 -- for every routine that a file says, with at most 254 classes
-pub instrumented-good : (p : Program) → goodProgram 1 p ≡ true → fewClasses p ≡ true → goodProgram 2 (instrumented (colorIn p) p) ≡ true
-instrumented-good p good few = colored-good p (colorIn p) good (file-colors p good few)
+pub instrumented_good : (p : Program) → good_program 1 p ≡ true → few_classes p ≡ true → good_program 2 (instrumented (color_in p) p) ≡ true
+instrumented_good p good few = colored_good p (color_in p) good (file_colors p good few)

@@ -9,86 +9,86 @@ use mathlib.Core.List.{List, [], ◌∷◌, ◌++◌}
 use mathlib.Core.Bool.{Bool, true, false}
 use lib.ListN.{length, get_or, length-append}
 use Rattle.numbers.specs.Number.{width}
-use Rattle.numbers.proofs.Laws.{width-last, width-more, width-least, width-most}
+use Rattle.numbers.proofs.Laws.{width_last, width_more, width_least, width_most}
 use Rattle.files.specs.declared.Object.{Object}
 use Rattle.opcodes.specs.declared.Instr.{Instr}
 use Rattle.opcodes.specs.declared.Instr.TheVariants.{End, Place, Add, Sub, Less, Load8, Load32, Put8, Put32, Write8, Write32, Jump, JumpIf, Alloc, Free, In, Out, Check8, Check32, CheckPut8, CheckPut32}
 use Rattle.files.specs.Program.{Program}
-use Rattle.files.specs.Writing.{spellAll, spellObject, spellInstr, spellFile}
-use Rattle.opcodes.specs.View.{Aim, inGlobal, atTemp, View, act, jump, jumpIf, store, check, view, checkInstr, one, four}
-use Rattle.safety.specs.Unsafe.{safeAim, setOf}
+use Rattle.files.specs.Writing.{spell_all, spell_object, spell_instr, spell_file}
+use Rattle.opcodes.specs.View.{Aim, in_global, at_temp, View, act, jump, jump_if, store, check, view, check_instr, one, four}
+use Rattle.safety.specs.Unsafe.{safe_aim, set_of}
 use Rattle.coloring.specs.Colored.{tinted}
-use Rattle.coloring.proofs.Tinted.{tinted-length}
-use Rattle.instrumenter.specs.Instrumented.{checksOf, checkOf, guarded, newPlace, instrumented}
-use Rattle.instrumenter.proofs.Spans.{check-safe, check-unsafe}
-use Rattle.coloring.specs.Color.{colorOfSet}
+use Rattle.coloring.proofs.Tinted.{tinted_length}
+use Rattle.instrumenter.specs.Instrumented.{checks_of, check_of, guarded, new_place, instrumented}
+use Rattle.instrumenter.proofs.Spans.{check_safe, check_unsafe}
+use Rattle.coloring.specs.Color.{color_of_set}
 use Rattle.instructions.specs.Moved.{moved}
 
 -- a color takes at most two bytes
-color-width : (c : ℕ) → c ≤ 255 → width c ≤ 2
-color-width c h =
+color_width : (c : ℕ) → c ≤ 255 → width c ≤ 2
+color_width c h =
     elim (dec_lt c 128) [
-      | yes t ↦ omega (arith, width-last c t)
-      | no t ↦ let l : 128 ≤ c = omega arith in omega (arith, width-more c l (omega arith), width-last (c / 128) (omega arith))
+      | yes t ↦ omega (arith, width_last c t)
+      | no t ↦ let l : 128 ≤ c = omega arith in omega (arith, width_more c l (omega arith), width_last (c / 128) (omega arith))
     ]
 
-length-spellAll : {A : Type 0} (f : A → List ℕ) (xs ys : List A) → length (spellAll f (xs ++ ys)) ≡ length (spellAll f xs) + length (spellAll f ys)
-unfolding spellAll
-length-spellAll f [] ys = omega arith
-length-spellAll f (x ∷ xs) ys = simp length-append (omega (arith, length-spellAll f xs ys))
+length-spell_all : {A : Type 0} (f : A → List ℕ) (xs ys : List A) → length (spell_all f (xs ++ ys)) ≡ length (spell_all f xs) + length (spell_all f ys)
+unfolding spell_all
+length-spell_all f [] ys = omega arith
+length-spell_all f (x ∷ xs) ys = simp length-append (omega (arith, length-spell_all f xs ys))
 
-length-nil : {A : Type 0} (f : A → List ℕ) → length (spellAll f []) ≡ 0
-unfolding spellAll
+length-nil : {A : Type 0} (f : A → List ℕ) → length (spell_all f []) ≡ 0
+unfolding spell_all
 length-nil f = refl
 
-length-cons : {A : Type 0} (f : A → List ℕ) (x : A) (xs : List A) → length (spellAll f (x ∷ xs)) ≡ length (f x) + length (spellAll f xs)
-unfolding spellAll
-length-cons f x xs = length-append (f x) (spellAll f xs)
+length-cons : {A : Type 0} (f : A → List ℕ) (x : A) (xs : List A) → length (spell_all f (x ∷ xs)) ≡ length (f x) + length (spell_all f xs)
+unfolding spell_all
+length-cons f x xs = length-append (f x) (spell_all f xs)
 
 module _ (color : ℕ → ℕ) (small : (x : ℕ) → color x ≤ 255) where
   -- ---- objects
 
-  objects-longer : (from : ℕ) (os : List Object) → length (spellAll (spellObject 2) (tinted color from os)) ≤ length (spellAll (spellObject 1) os) + 2 * length os
-  unfolding spellAll tinted
-  objects-longer from [] = omega arith
-  objects-longer from (o ∷ os) =
+  objects_longer : (from : ℕ) (os : List Object) → length (spell_all (spell_object 2) (tinted color from os)) ≤ length (spell_all (spell_object 1) os) + 2 * length os
+  unfolding spell_all tinted
+  objects_longer from [] = omega arith
+  objects_longer from (o ∷ os) =
       simp length-append
-      (omega (arith, color-width (color from) (small from), objects-longer (from + 1) os))
+      (omega (arith, color_width (color from) (small from), objects_longer (from + 1) os))
 
   -- ---- instructions
 
   abbrev extra : View → ℕ
   extra (act x) = 0
   extra (jump t) = 0
-  extra (jumpIf a t) = 0
+  extra (jump_if a t) = 0
   extra (store aim b s) = 13
   extra (check aim c) = 0
 
-  check-length : (aim : Aim) (c : ℕ) → c ≤ 255 → length (spellInstr 2 (checkInstr aim c)) ≤ 13
-  check-length (inGlobal g k one) c h =
-      simp length-append (omega (arith, width-last 20 (omega arith), width-most g, width-most k, color-width c h))
-  check-length (inGlobal g k four) c h =
-      simp length-append (omega (arith, width-last 21 (omega arith), width-most g, width-most k, color-width c h))
-  check-length (atTemp a one) c h =
-      simp length-append (omega (arith, width-last 18 (omega arith), width-most a, color-width c h))
-  check-length (atTemp a four) c h =
-      simp length-append (omega (arith, width-last 19 (omega arith), width-most a, color-width c h))
+  check_length : (aim : Aim) (c : ℕ) → c ≤ 255 → length (spell_instr 2 (check_instr aim c)) ≤ 13
+  check_length (in_global g k one) c h =
+      simp length-append (omega (arith, width_last 20 (omega arith), width_most g, width_most k, color_width c h))
+  check_length (in_global g k four) c h =
+      simp length-append (omega (arith, width_last 21 (omega arith), width_most g, width_most k, color_width c h))
+  check_length (at_temp a one) c h =
+      simp length-append (omega (arith, width_last 18 (omega arith), width_most a, color_width c h))
+  check_length (at_temp a four) c h =
+      simp length-append (omega (arith, width_last 19 (omega arith), width_most a, color_width c h))
 
-  checks-length : (p : Program) (v : View) → length (spellAll (spellInstr 2) (checkOf color p v)) ≤ extra v
-  unfolding spellAll
-  checks-length p (act x) = omega arith
-  checks-length p (jump t) = omega arith
-  checks-length p (jumpIf a t) = omega arith
-  checks-length p (store aim b s) = go (safeAim p aim) refl
+  checks_length : (p : Program) (v : View) → length (spell_all (spell_instr 2) (check_of color p v)) ≤ extra v
+  unfolding spell_all
+  checks_length p (act x) = omega arith
+  checks_length p (jump t) = omega arith
+  checks_length p (jump_if a t) = omega arith
+  checks_length p (store aim b s) = go (safe_aim p aim) refl
     where
-      go : (safe : Bool) → safeAim p aim ≡ safe → length (spellAll (spellInstr 2) (checkOf color p (store aim b s))) ≤ 13
-      go true e = rw (check-safe color p aim b s e) (omega arith)
+      go : (safe : Bool) → safe_aim p aim ≡ safe → length (spell_all (spell_instr 2) (check_of color p (store aim b s))) ≤ 13
+      go true e = rw (check_safe color p aim b s e) (omega arith)
       go false e =
-          rw (check-unsafe color p aim b s e, length-append)
-          (omega (arith, check-length aim (colorOfSet color (setOf p aim s)) (small (get_or (setOf p aim s) 0 0))))
-  checks-length p (check aim c) = omega arith
+          rw (check_unsafe color p aim b s e, length-append)
+          (omega (arith, check_length aim (color_of_set color (set_of p aim s)) (small (get_or (set_of p aim s) 0 0))))
+  checks_length p (check aim c) = omega arith
 
-  moved_length : (target : ℕ → ℕ) (i : Instr) → length (spellInstr 2 (moved target i)) + extra (view i) ≤ length (spellInstr 1 i) + 13
+  moved_length : (target : ℕ → ℕ) (i : Instr) → length (spell_instr 2 (moved target i)) + extra (view i) ≤ length (spell_instr 1 i) + 13
   moved_length target End = omega arith
   moved_length target (Instr.Set d n) = omega arith
   moved_length target (Place d g) = omega arith
@@ -101,8 +101,8 @@ module _ (color : ℕ → ℕ) (small : (x : ℕ) → color x ≤ 255) where
   moved_length target (Put32 g k a) = omega arith
   moved_length target (Write8 a b s) = simp length-append (omega arith)
   moved_length target (Write32 a b s) = simp length-append (omega arith)
-  moved_length target (Jump t) = simp length-append (omega (arith, width-most (target t), width-least t))
-  moved_length target (JumpIf a t) = simp length-append (omega (arith, width-most (target t), width-least t))
+  moved_length target (Jump t) = simp length-append (omega (arith, width_most (target t), width_least t))
+  moved_length target (JumpIf a t) = simp length-append (omega (arith, width_most (target t), width_least t))
   moved_length target (Alloc d g a) = omega arith
   moved_length target (Free a) = omega arith
   moved_length target (In d) = omega arith
@@ -112,33 +112,33 @@ module _ (color : ℕ → ℕ) (small : (x : ℕ) → color x ≤ 255) where
   moved_length target (CheckPut8 g k c) = omega arith
   moved_length target (CheckPut32 g k c) = omega arith
 
-  code-longer : (p : Program) (target : ℕ → ℕ) (code : List Instr)
-      → length (spellAll (spellInstr 2) (guarded (checksOf color p) target code)) ≤ length (spellAll (spellInstr 1) code) + 13 * length code
+  code_longer : (p : Program) (target : ℕ → ℕ) (code : List Instr)
+      → length (spell_all (spell_instr 2) (guarded (checks_of color p) target code)) ≤ length (spell_all (spell_instr 1) code) + 13 * length code
   unfolding guarded
-  code-longer p target [] = omega (arith, length-nil (spellInstr 2))
-  code-longer p target (i ∷ code) =
-      rw (length-spellAll (spellInstr 2) (checkOf color p (view i)) (moved target i ∷ guarded (checksOf color p) target code))
+  code_longer p target [] = omega (arith, length-nil (spell_instr 2))
+  code_longer p target (i ∷ code) =
+      rw (length-spell_all (spell_instr 2) (check_of color p (view i)) (moved target i ∷ guarded (checks_of color p) target code))
       (omega (
         arith,
-        length-cons (spellInstr 2) (moved target i) (guarded (checksOf color p) target code),
-        length-cons (spellInstr 1) i code,
-        checks-length p (view i),
+        length-cons (spell_instr 2) (moved target i) (guarded (checks_of color p) target code),
+        length-cons (spell_instr 1) i code,
+        checks_length p (view i),
         moved_length target i,
-        code-longer p target code,
+        code_longer p target code,
       ))
 
   -- ---- the file
 
-  pub file-longer : (p : Program) → length (spellFile 2 (instrumented color p)) ≤ length (spellFile 1 p) + 2 * length p.objects + 13 * length p.code + 4
-  unfolding spellFile instrumented
-  file-longer p =
-      simp (length-append, tinted-length)
+  pub file_longer : (p : Program) → length (spell_file 2 (instrumented color p)) ≤ length (spell_file 1 p) + 2 * length p.objects + 13 * length p.code + 4
+  unfolding spell_file instrumented
+  file_longer p =
+      simp (length-append, tinted_length)
       (omega (
         arith,
-        objects-longer 0 p.objects,
-        code-longer p (newPlace color p) p.code,
-        width-last 1 (omega arith),
-        width-last 2 (omega arith),
-        width-most (length (guarded (checksOf color p) (newPlace color p) p.code)),
-        width-least (length p.code),
+        objects_longer 0 p.objects,
+        code_longer p (new_place color p) p.code,
+        width_last 1 (omega arith),
+        width_last 2 (omega arith),
+        width_most (length (guarded (checks_of color p) (new_place color p) p.code)),
+        width_least (length p.code),
       ))

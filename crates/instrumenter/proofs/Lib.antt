@@ -4,9 +4,9 @@
 -- definition `instrument` of specs/Answer.antt, and the room afterwards is the one it says.
 --
 -- About the definitions, for the crates above:
---   a file of version 2 can say it: 2,000 instructions, 32,768 bytes  `instrumented-good` in `Instrumenting`
---   what is written reads back as exactly that code, never 9 again    `wrote`, `new-file-reads`, `fits-again` in `ReadsBack`
---   each answer has its reason, and each reason its answer            `answered-because`, `answers` in `Answers`
+--   a file of version 2 can say it: 2,000 instructions, 32,768 bytes  `instrumented_good` in `Instrumenting`
+--   what is written reads back as exactly that code, never 9 again    `wrote`, `new_file_reads`, `fits_again` in `ReadsBack`
+--   each answer has its reason, and each reason its answer            `answered_because`, `answers` in `Answers`
 --
 -- How the code comes to it: the two passes over the code, one instruction at a time (`Turns`), each by the crate
 -- `checks`; over the arrays that hold a routine they give its version 2

@@ -7,36 +7,36 @@ use mathlib.Core.List.{List}
 use mathlib.Core.Bool.{true}
 use lib.ListN.{length}
 use Rattle.files.specs.Program.{Program}
-use Rattle.files.specs.Reading.{whole, readFile}
-use Rattle.coloring.specs.Colored.{colorIn, fewClasses}
+use Rattle.files.specs.Reading.{whole, read_file}
+use Rattle.coloring.specs.Colored.{color_in, few_classes}
 use Rattle.layout.specs.Layout.{pieces_of, fits}
-use Rattle.routines.specs.Accepted.{globalsFit, Accepted}
-use Rattle.routines.proofs.Layouts.{own-fit}
+use Rattle.routines.specs.Accepted.{globals_fit, Accepted}
+use Rattle.routines.proofs.Layouts.{own_fit}
 use Rattle.instrumenter.specs.Instrumented.{instrumented}
-use Rattle.instrumenter.specs.Answer.{FileAnswer, file, newFile, instrument}
-use Rattle.files.proofs.RoundTrip.{one-spelling, reads-back}
-use Rattle.instrumenter.proofs.Instrumenting.{instrumented-good}
-use Rattle.instrumenter.proofs.Answers.{Because, unread, crowded, overfull, cramped, written, answered-because}
+use Rattle.instrumenter.specs.Answer.{FileAnswer, file, new_file, instrument}
+use Rattle.files.proofs.RoundTrip.{one_spelling, reads_back}
+use Rattle.instrumenter.proofs.Instrumenting.{instrumented_good}
+use Rattle.instrumenter.proofs.Answers.{Because, unread, crowded, overfull, cramped, written, answered_because}
 
 -- version 2 of an accepted routine reads back, and its globals fit: never 9 again
 module _ (p : Program) (accepted : Accepted p) where
-  pub new-file-reads : readFile 2 (newFile p) ≡ whole (instrumented (colorIn p) p)
-  new-file-reads = reads-back 2 (omega arith) (instrumented (colorIn p) p) (instrumented-good p accepted.good accepted.classes)
+  pub new_file_reads : read_file 2 (new_file p) ≡ whole (instrumented (color_in p) p)
+  new_file_reads = reads_back 2 (omega arith) (instrumented (color_in p) p) (instrumented_good p accepted.good accepted.classes)
 
-  pub fits-again : fits (pieces_of (instrumented (colorIn p) p).objects) ≡ true
+  pub fits_again : fits (pieces_of (instrumented (color_in p) p).objects) ≡ true
   unfolding instrumented
-  fits-again = own-fit p ∙ accepted.fitting
+  fits_again = own_fit p ∙ accepted.fitting
 
 -- what stands behind a file that was written
 pub record Wrote (bytes : List ℕ) (room : ℕ) (out : List ℕ) : Type 0 where
   pub routine : Program
-  pub read : readFile 1 bytes ≡ whole routine
+  pub read : read_file 1 bytes ≡ whole routine
   pub accepted : Accepted routine
-  pub spelled : newFile routine ≡ out
+  pub spelled : new_file routine ≡ out
   pub short : length out ≤ room
 
 pub wrote : (bytes : List ℕ) (room : ℕ) (out : List ℕ) → instrument bytes room ≡ file out → Wrote bytes room out
-wrote bytes room out e = go (file out) (rw e at (answered-because bytes room)) refl
+wrote bytes room out e = go (file out) (rw e at (answered_because bytes room)) refl
   where
     go : (a : FileAnswer) → Because bytes room a → a ≡ file out → Wrote bytes room out
     go a (unread r) s = let z : ◌≡◌ {A = ℕ} 0 1 = cc in absurd (omega arith)
@@ -44,11 +44,11 @@ wrote bytes room out e = go (file out) (rw e at (answered-because bytes room)) r
     go a (overfull r c f) s = let z : ◌≡◌ {A = ℕ} 0 1 = cc in absurd (omega arith)
     go a (cramped r c f l) s = let z : ◌≡◌ {A = ℕ} 0 1 = cc in absurd (omega arith)
     go a (written {p} r c f l) s =
-        let same : newFile p ≡ out = cc in
+        let same : new_file p ≡ out = cc in
         record {
           routine = p;
           read = r;
-          accepted = record { good = (one-spelling 1 bytes p r).good; classes = c; fitting = f };
+          accepted = record { good = (one_spelling 1 bytes p r).good; classes = c; fitting = f };
           spelled = same;
           short = subst (λ (x : List ℕ). length x ≤ room) same l;
         }

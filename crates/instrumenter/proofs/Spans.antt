@@ -9,23 +9,23 @@ use lib.ListN.{length, take, length-append}
 use Rattle.opcodes.specs.declared.Instr.{Instr}
 use Rattle.files.specs.Program.{Program}
 use Rattle.instructions.specs.Moved.{moved}
-use Rattle.opcodes.specs.View.{Aim, View, act, jump, jumpIf, store, check, view, checkInstr}
-use Rattle.safety.specs.Unsafe.{safeAim, setOf, Unsafe}
-use Rattle.safety.proofs.Stores.{safe-none, unsafe-one}
-use Rattle.instrumenter.specs.Instrumented.{checksOf, checkOf, guarded, span_of, newPlace}
-use Rattle.coloring.specs.Color.{colorOfSet}
+use Rattle.opcodes.specs.View.{Aim, View, act, jump, jump_if, store, check, view, check_instr}
+use Rattle.safety.specs.Unsafe.{safe_aim, set_of, Unsafe}
+use Rattle.safety.proofs.Stores.{safe_none, unsafe_one}
+use Rattle.instrumenter.specs.Instrumented.{checks_of, check_of, guarded, span_of, new_place}
+use Rattle.coloring.specs.Color.{color_of_set}
 
 module _ (checks : Instr → List Instr) where
-  pub span-append : (xs ys : List Instr) → span_of checks (xs ++ ys) ≡ span_of checks xs + span_of checks ys
+  pub span_append : (xs ys : List Instr) → span_of checks (xs ++ ys) ≡ span_of checks xs + span_of checks ys
   unfolding span_of
-  span-append [] ys = omega arith
-  span-append (x ∷ xs) ys = omega (arith, span-append xs ys)
+  span_append [] ys = omega arith
+  span_append (x ∷ xs) ys = omega (arith, span_append xs ys)
 
-  pub guarded-append : (target : ℕ → ℕ) (xs ys : List Instr) → guarded checks target (xs ++ ys) ≡ guarded checks target xs ++ guarded checks target ys
+  pub guarded_append : (target : ℕ → ℕ) (xs ys : List Instr) → guarded checks target (xs ++ ys) ≡ guarded checks target xs ++ guarded checks target ys
   unfolding guarded
-  guarded-append target [] ys = refl
-  guarded-append target (x ∷ xs) ys =
-      ap (λ (l : List Instr). checks x ++ moved target x ∷ l) (guarded-append target xs ys)
+  guarded_append target [] ys = refl
+  guarded_append target (x ∷ xs) ys =
+      ap (λ (l : List Instr). checks x ++ moved target x ∷ l) (guarded_append target xs ys)
       ∙ sym (append_assoc (checks x) (moved target x ∷ guarded checks target xs) (guarded checks target ys))
 
   pub length-guarded : (target : ℕ → ℕ) (code : List Instr) → length (guarded checks target code) ≡ span_of checks code
@@ -33,46 +33,46 @@ module _ (checks : Instr → List Instr) where
   length-guarded target [] = refl
   length-guarded target (i ∷ code) = rw (length-append, length-guarded target code) (omega arith)
 
-abbrev checkFor : (color : ℕ → ℕ) → Unsafe → Instr
-checkFor color u = checkInstr u.aim (colorOfSet color u.set)
+abbrev check_for : (color : ℕ → ℕ) → Unsafe → Instr
+check_for color u = check_instr u.aim (color_of_set color u.set)
 
 module _ (color : ℕ → ℕ) (p : Program) where
   -- a safe store has no check, and an unsafe one has one
-  pub check-safe : (aim : Aim) (b s : ℕ) → safeAim p aim ≡ true → checkOf color p (store aim b s) ≡ []
-  check-safe aim b s e = ap (map (checkFor color)) (safe-none p aim b s e)
+  pub check_safe : (aim : Aim) (b s : ℕ) → safe_aim p aim ≡ true → check_of color p (store aim b s) ≡ []
+  check_safe aim b s e = ap (map (check_for color)) (safe_none p aim b s e)
 
-  pub check-unsafe : (aim : Aim) (b s : ℕ) → safeAim p aim ≡ false
-      → checkOf color p (store aim b s) ≡ checkInstr aim (colorOfSet color (setOf p aim s)) ∷ []
-  check-unsafe aim b s e = ap (map (checkFor color)) (unsafe-one p aim b s e)
+  pub check_unsafe : (aim : Aim) (b s : ℕ) → safe_aim p aim ≡ false
+      → check_of color p (store aim b s) ≡ check_instr aim (color_of_set color (set_of p aim s)) ∷ []
+  check_unsafe aim b s e = ap (map (check_for color)) (unsafe_one p aim b s e)
 
-  pub check-most : (v : View) → length (checkOf color p v) ≤ 1
-  check-most (act x) = omega arith
-  check-most (jump t) = omega arith
-  check-most (jumpIf a t) = omega arith
-  check-most (store aim b s) = go (safeAim p aim) refl
+  pub check_most : (v : View) → length (check_of color p v) ≤ 1
+  check_most (act x) = omega arith
+  check_most (jump t) = omega arith
+  check_most (jump_if a t) = omega arith
+  check_most (store aim b s) = go (safe_aim p aim) refl
     where
-      go : (safe : Bool) → safeAim p aim ≡ safe → length (checkOf color p (store aim b s)) ≤ 1
-      go true e = rw (check-safe aim b s e) (omega arith)
-      go false e = rw (check-unsafe aim b s e) (omega arith)
-  check-most (check aim c) = omega arith
+      go : (safe : Bool) → safe_aim p aim ≡ safe → length (check_of color p (store aim b s)) ≤ 1
+      go true e = rw (check_safe aim b s e) (omega arith)
+      go false e = rw (check_unsafe aim b s e) (omega arith)
+  check_most (check aim c) = omega arith
 
-  pub span-most : (code : List Instr) → span_of (checksOf color p) code ≤ 2 * length code
+  pub span_most : (code : List Instr) → span_of (checks_of color p) code ≤ 2 * length code
   unfolding span_of
-  span-most [] = omega arith
-  span-most (i ∷ code) = omega (arith, check-most (view i), span-most code)
+  span_most [] = omega arith
+  span_most (i ∷ code) = omega (arith, check_most (view i), span_most code)
 
-  pub span-least : (code : List Instr) → length code ≤ span_of (checksOf color p) code
+  pub span_least : (code : List Instr) → length code ≤ span_of (checks_of color p) code
   unfolding span_of
-  span-least [] = omega arith
-  span-least (i ∷ code) = omega (arith, span-least code)
+  span_least [] = omega arith
+  span_least (i ∷ code) = omega (arith, span_least code)
 
-  pub span-take : (code : List Instr) (at : ℕ) → at < length code → span_of (checksOf color p) (take at code) < span_of (checksOf color p) code
+  pub span_take : (code : List Instr) (at : ℕ) → at < length code → span_of (checks_of color p) (take at code) < span_of (checks_of color p) code
   unfolding span_of
-  span-take [] at l = absurd (omega arith)
-  span-take (i ∷ code) zero l = omega arith
-  span-take (i ∷ code) (suc at) l = omega (arith, span-take code at (omega arith))
+  span_take [] at l = absurd (omega arith)
+  span_take (i ∷ code) zero l = omega arith
+  span_take (i ∷ code) (suc at) l = omega (arith, span_take code at (omega arith))
 
   -- a jump to an instruction goes to one of version 2
-  pub place_inside : (target : ℕ → ℕ) (at : ℕ) → at < length p.code → newPlace color p at < length (guarded (checksOf color p) target p.code)
-  unfolding newPlace
-  place_inside target at l = rw (length-guarded (checksOf color p) target p.code) (span-take p.code at l)
+  pub place_inside : (target : ℕ → ℕ) (at : ℕ) → at < length p.code → new_place color p at < length (guarded (checks_of color p) target p.code)
+  unfolding new_place
+  place_inside target at l = rw (length-guarded (checks_of color p) target p.code) (span_take p.code at l)

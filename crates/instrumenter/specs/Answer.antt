@@ -2,9 +2,9 @@
 use Rattle.std.specs.Prelude.{ℕ, List, ◌++◌, true, false, length, drop, leb}
 use Rattle.numbers.specs.declared.Refusal.{Refusal}
 use Rattle.files.specs.Program.{Program}
-use Rattle.files.specs.Reading.{Reading, whole, refusal, readFile}
-use Rattle.files.specs.Writing.{spellFile}
-use Rattle.coloring.specs.Colored.{colorIn}
+use Rattle.files.specs.Reading.{Reading, whole, refusal, read_file}
+use Rattle.files.specs.Writing.{spell_file}
+use Rattle.coloring.specs.Colored.{color_in}
 use Rattle.routines.specs.Accepted.{accepted}
 use Rattle.instrumenter.specs.Instrumented.{instrumented}
 use Rattle.instrumenter.specs.declared.Instrumented.{Instrumented}
@@ -14,24 +14,24 @@ pub data FileAnswer : Type 0 where
   refused : Refusal → FileAnswer
 
 -- version 2 of a routine, as a file
-abbrev pub newFile : Program → List ℕ
-newFile p = spellFile 2 (instrumented (colorIn p) p)
+abbrev pub new_file : Program → List ℕ
+new_file p = spell_file 2 (instrumented (color_in p) p)
 
 -- "10 | room for the version 2 file too small | 0"
 abbrev pub room_for : (room : ℕ) → List ℕ → FileAnswer
 room_for room bytes = elim (leb (length bytes) room) [ true ↦ file bytes | false ↦ FileAnswer.refused (refusal 10 0) ]
 
-abbrev pub answerFor : (room : ℕ) → Reading → FileAnswer
-answerFor room (whole p) = room_for room (newFile p)
-answerFor room (Reading.refused q) = FileAnswer.refused q
+abbrev pub answer_for : (room : ℕ) → Reading → FileAnswer
+answer_for room (whole p) = room_for room (new_file p)
+answer_for room (Reading.refused q) = FileAnswer.refused q
 
 unfoldable pub instrument : (bytes : List ℕ) (room : ℕ) → FileAnswer
-instrument bytes room = answerFor room (accepted (readFile 1 bytes))
+instrument bytes room = answer_for room (accepted (read_file 1 bytes))
 
 -- the room afterwards
-abbrev pub roomHolding : (room : List ℕ) → FileAnswer → List ℕ
-roomHolding room (file bytes) = bytes ++ drop (length bytes) room
-roomHolding room (FileAnswer.refused q) = room
+abbrev pub room_holding : (room : List ℕ) → FileAnswer → List ℕ
+room_holding room (file bytes) = bytes ++ drop (length bytes) room
+room_holding room (FileAnswer.refused q) = room
 
 -- how the answer is told: the file's length, or the refusal
 abbrev pub told : FileAnswer → Instrumented

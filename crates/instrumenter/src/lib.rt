@@ -3,7 +3,7 @@
 mod passes; // passes.rt: where the instructions go, and the code of version 2
 
 ghost use Rattle.std.specs.Prelude.{◌≡◌, ◌≤◌, length};
-ghost use Rattle.instrumenter.specs.Answer.{instrument, told, roomHolding};
+ghost use Rattle.instrumenter.specs.Answer.{instrument, told, room_holding};
 ghost use Rattle.instrumenter.specs.Arrays.{Version2};
 
 use coloring::read_colored;
@@ -43,7 +43,7 @@ fn version_2(p: Loaded) -> Loaded
 // Version 2 of the routine in a file of version 1, written to the front of a room; or why not.
 pub fn instrument(file: &[u8], room: &mut [u8]) -> Instrumented
     ensures answer { result ≡ told (instrument file.now (length room.old)) }
-    ensures room { room.new ≡ roomHolding room.old (instrument file.now (length room.old)) }
+    ensures room { room.new ≡ room_holding room.old (instrument file.now (length room.old)) }
 {
     let p = read_colored(file);
     let outcome = p.outcome;

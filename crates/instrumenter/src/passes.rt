@@ -1,7 +1,7 @@
 // The two passes over a routine's code: first the new place of each instruction, then the code of
 // version 2. Each owns the array that it fills, and is lent those that it reads.
 ghost use Rattle.std.specs.Prelude.{◌≡◌, ◌+◌, ◌≤◌, length, get_or};
-ghost use Rattle.checks.specs.Held.{asList, checkIn};
+ghost use Rattle.checks.specs.Held.{as_list, check_in};
 ghost use Rattle.instrumenter.specs.Arrays.{PlacesAre, GuardedCode};
 
 use checks::{Before, check_before, copy_of};
@@ -17,7 +17,7 @@ pub struct Code {
 
 // How many instructions of version 2 an instruction becomes: two where it has a check.
 fn span_of(before: Before) -> u16
-    ensures { (result ≡ length (asList before) + 1) × (result ≤ 2) }
+    ensures { (result ≡ length (as_list before) + 1) × (result ≤ 2) }
 {
     match before {
         Before::Check(_) => 2,
@@ -35,7 +35,7 @@ pub(crate) fn new_places<'a>(
     members: &'a [u16],
 ) -> [u16; 1000]
     requires { lines ≤ 1000 }
-    ensures { PlacesAre (checkIn sizes.now colors.now ends.now members.now) code lines result }
+    ensures { PlacesAre (check_in sizes.now colors.now ends.now members.now) code lines result }
 {
     let mut places = [0u16; 1000];
     let mut place = 0u16;
@@ -61,7 +61,7 @@ pub(crate) fn guarded_code<'a>(
     members: &'a [u16],
 ) -> Code
     requires { lines ≤ 1000 }
-    ensures { GuardedCode (checkIn sizes.now colors.now ends.now members.now) (λ t. get_or places.now t 0) code lines result.lines result.code }
+    ensures { GuardedCode (check_in sizes.now colors.now ends.now members.now) (λ t. get_or places.now t 0) code lines result.lines result.code }
 {
     let mut guarded = [Line { instr: Instr::End }; 2000];
     let mut next = 0;

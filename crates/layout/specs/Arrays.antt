@@ -13,12 +13,12 @@ piece_at kinds sizes colors g =
 abbrev pub counted : (objects : ℕ) → ℕ
 counted objects = elim (leb objects 400) [ true ↦ objects | false ↦ 400 ]
 
-unfoldable pub piecesIn : (kinds sizes colors : List ℕ) → (objects : ℕ) → List Piece
-piecesIn kinds sizes colors objects = tabulate (piece_at kinds sizes colors) 0 (counted objects)
+unfoldable pub pieces_in : (kinds sizes colors : List ℕ) → (objects : ℕ) → List Piece
+pieces_in kinds sizes colors objects = tabulate (piece_at kinds sizes colors) 0 (counted objects)
 
 -- of the next place for a safe and for an unsafe object, the one that is meant
-abbrev pub nextPlace : (safe : Bool) → (safeAt unsafeAt : ℕ) → ℕ
-nextPlace safe safeAt unsafeAt = elim safe [ true ↦ safeAt | false ↦ unsafeAt ]
+abbrev pub next_place : (safe : Bool) → (safeAt unsafeAt : ℕ) → ℕ
+next_place safe safeAt unsafeAt = elim safe [ true ↦ safeAt | false ↦ unsafeAt ]
 
 -- the start of each object, then 0, and where the last guard ends
 abbrev pub layout_of : List Piece → Layout

@@ -17,13 +17,13 @@ abbrev pub pieces_of : List Object → List Piece
 pieces_of objects = map piece_of objects
 
 -- the bytes that a safe object of a kind takes: its extent; no other object takes any
-abbrev pub safeSpace : (kind : ℕ) → Piece → ℕ
-safeSpace kind o =
+abbrev pub safe_space : (kind : ℕ) → Piece → ℕ
+safe_space kind o =
     elim (eqb o.kind kind) [ false ↦ 0 | true ↦ elim o.safe [ true ↦ extent o.size | false ↦ 0 ] ]
 
 -- the bytes that an unsafe one takes: its extent and a guard of 8
-abbrev pub unsafeSpace : (kind : ℕ) → Piece → ℕ
-unsafeSpace kind o =
+abbrev pub unsafe_space : (kind : ℕ) → Piece → ℕ
+unsafe_space kind o =
     elim (eqb o.kind kind) [ false ↦ 0 | true ↦ elim o.safe [ true ↦ 0 | false ↦ extent o.size + 8 ] ]
 
 unfoldable pub total : (Piece → ℕ) → List Piece → ℕ
@@ -33,26 +33,26 @@ total space (o ∷ os) = space o + total space os
 -- ---- the objects of a kind, from a base on
 
 -- ".. in order, each rounded up to eight (its extent); then a guard of 8; .."
-abbrev pub unsafeFrom : (kind base : ℕ) → List Piece → ℕ
-unsafeFrom kind base os = base + total (safeSpace kind) os + 8
+abbrev pub unsafe_from : (kind base : ℕ) → List Piece → ℕ
+unsafe_from kind base os = base + total (safe_space kind) os + 8
 
 -- ".. then each unsafe global's extent, each followed by a guard of 8"
-abbrev pub endFrom : (kind base : ℕ) → List Piece → ℕ
-endFrom kind base os = unsafeFrom kind base os + total (unsafeSpace kind) os
+abbrev pub end_from : (kind base : ℕ) → List Piece → ℕ
+end_from kind base os = unsafe_from kind base os + total (unsafe_space kind) os
 
 -- the start of object g
-abbrev pub startFrom : (kind base : ℕ) → List Piece → (g : ℕ) → ℕ
-startFrom kind base os g =
+abbrev pub start_from : (kind base : ℕ) → List Piece → (g : ℕ) → ℕ
+start_from kind base os g =
     elim (get_or os g (record { kind = 0; size = 0; safe = true })).safe
-    [ true ↦ base + total (safeSpace kind) (take g os) | false ↦ unsafeFrom kind base os + total (unsafeSpace kind) (take g os) ]
+    [ true ↦ base + total (safe_space kind) (take g os) | false ↦ unsafe_from kind base os + total (unsafe_space kind) (take g os) ]
 
 -- ---- the globals: "Slot 0 belongs to nothing. From address 8 stand the safe globals .."
 
 abbrev pub end_of : List Piece → ℕ
-end_of os = endFrom 0 8 os
+end_of os = end_from 0 8 os
 
 unfoldable pub start_of : List Piece → (g : ℕ) → ℕ
-start_of os g = startFrom 0 8 os g
+start_of os g = start_from 0 8 os g
 
 -- "This must end at or below 28,672": else refusal 9
 abbrev pub fits : List Piece → Bool

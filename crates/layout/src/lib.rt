@@ -5,8 +5,8 @@
 ghost use Rattle.std.specs.Prelude.{◌≡◌, ◌+◌, ◌*◌, ◌≤◌, ◌<◌, eqb};
 ghost use Rattle.opcodes.specs.View.{extent};
 ghost use Rattle.files.specs.Held.{tabulate};
-ghost use Rattle.layout.specs.Layout.{safeSpace, unsafeSpace, total, unsafeFrom};
-ghost use Rattle.layout.specs.Arrays.{piece_at, piecesIn, layout_of, nextPlace, counted};
+ghost use Rattle.layout.specs.Layout.{safe_space, unsafe_space, total, unsafe_from};
+ghost use Rattle.layout.specs.Arrays.{piece_at, pieces_in, layout_of, next_place, counted};
 
 // The start of each object, 0 for those that are not there, and where the last guard ends.
 #[derive(Drop)]
@@ -24,7 +24,7 @@ fn extent_of(size: u16) -> u32
 
 // The bytes that a safe global takes.
 fn safe_space(kind: u8, size: u16, color: u8) -> u32
-    ensures { (result ≡ safeSpace 0 (record { kind = kind; size = size; safe = eqb color 0 })) × (result ≤ 65536) }
+    ensures { (result ≡ safe_space 0 (record { kind = kind; size = size; safe = eqb color 0 })) × (result ≤ 65536) }
 {
     if kind != 0 {
         return 0;
@@ -37,7 +37,7 @@ fn safe_space(kind: u8, size: u16, color: u8) -> u32
 
 // The bytes that an unsafe global takes, with its guard.
 fn unsafe_space(kind: u8, size: u16, color: u8) -> u32
-    ensures { (result ≡ unsafeSpace 0 (record { kind = kind; size = size; safe = eqb color 0 })) × (result ≤ 65544) }
+    ensures { (result ≡ unsafe_space 0 (record { kind = kind; size = size; safe = eqb color 0 })) × (result ≤ 65544) }
 {
     if kind != 0 {
         return 0;
@@ -56,7 +56,7 @@ fn safe_total<'a>(
     objects: usize,
 ) -> u32
     requires { objects ≤ 400 }
-    ensures value { result ≡ total (safeSpace 0) (tabulate (piece_at kinds.now sizes.now colors.now) 0 objects) }
+    ensures value { result ≡ total (safe_space 0) (tabulate (piece_at kinds.now sizes.now colors.now) 0 objects) }
     ensures upper_bound { result ≤ 26214400 }
 {
     let mut sum = 0;
@@ -70,7 +70,7 @@ fn safe_total<'a>(
 
 // Where the next object of this color would stand.
 fn start_of(color: u8, safe_at: u32, unsafe_at: u32) -> u32
-    ensures { result ≡ nextPlace (eqb color 0) safe_at unsafe_at }
+    ensures { result ≡ next_place (eqb color 0) safe_at unsafe_at }
 {
     if color == 0 { safe_at } else { unsafe_at }
 }
@@ -84,7 +84,7 @@ fn place_all<'a>(
     from: u32,
 ) -> Layout
     requires objects_bound { objects ≤ 400 }
-    requires from_value { from ≡ unsafeFrom 0 8 (tabulate (piece_at kinds.now sizes.now colors.now) 0 objects) }
+    requires from_value { from ≡ unsafe_from 0 8 (tabulate (piece_at kinds.now sizes.now colors.now) 0 objects) }
     requires from_bound { from ≤ 26214416 }
     ensures { result ≡ layout_of (tabulate (piece_at kinds.now sizes.now colors.now) 0 objects) }
 {
@@ -121,7 +121,7 @@ pub fn lay_out<'a>(
     colors: &'a [u8; 400],
     objects: usize,
 ) -> Layout
-    ensures { result ≡ layout_of (piecesIn kinds.now sizes.now colors.now objects) }
+    ensures { result ≡ layout_of (pieces_in kinds.now sizes.now colors.now objects) }
 {
     let count = at_most_400(objects);
     let from = 8 + safe_total(kinds, sizes, colors, count) + 8;

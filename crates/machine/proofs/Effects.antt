@@ -8,7 +8,7 @@ use Rattle.memory.specs.Memory.{inside}
 use Rattle.heap.specs.Heap.{Made, Freed, Alloc, Free, alloc, free}
 use Rattle.stops.specs.declared.Reason.{Reason}
 use Rattle.machine.specs.State.{Rule, Given, State, temp}
-use Rattle.machine.specs.Step.{Effect, stops, passes, completes, actEffect, allocating, freeing}
+use Rattle.machine.specs.Step.{Effect, stops, passes, completes, act_effect, allocating, freeing}
 
 -- the reasons that instrumented code may stop for: all but "35 store outside memory" and "38 unsound heap"
 abbrev pub Calm : Reason → Type 0
@@ -84,35 +84,35 @@ module _ {S T : Type 0} (Tie : S → T → List ℕ → Type 0) (May : Reason �
 
   module _ (rule : Rule S) (rule' : Rule T) (Site : ℕ → Type 0) (alike : Alike rule rule' Site) (given : Given)
       (s : State S) (at : ℕ) (own' : T) (tie : Tie s.own own' s.memory) where
-    allocating-follows : (d g a : ℕ) → Site g → (answer : Alloc) → alloc s.memory (temp s.temps a) g ≡ answer
+    allocating_follows : (d g a : ℕ) → Site g → (answer : Alloc) → alloc s.memory (temp s.temps a) g ≡ answer
         → Follows (allocating rule given s d g answer) (allocating rule' given (image s at own') d g answer)
-    allocating-follows d g a site Alloc.stopped e = (refl, alike.broken s.own own' s.memory (temp s.temps a) g tie site e)
-    allocating-follows d g a site Alloc.nothing e = (own', refl, tie)
-    allocating-follows d g a site (Alloc.made k) e =
+    allocating_follows d g a site Alloc.stopped e = (refl, alike.broken s.own own' s.memory (temp s.temps a) g tie site e)
+    allocating_follows d g a site Alloc.nothing e = (own', refl, tie)
+    allocating_follows d g a site (Alloc.made k) e =
         (rule'.making own' g k, refl, alike.made s.own own' s.memory (temp s.temps a) g k tie site e)
 
-    freeing-follows : (address : ℕ) (answer : Free) → free s.memory address ≡ answer
+    freeing_follows : (address : ℕ) (answer : Free) → free s.memory address ≡ answer
         → Follows (freeing rule given s address answer) (freeing rule' given (image s at own') address answer)
-    freeing-follows address Free.stopped e = (refl, alike.broken' s.own own' s.memory address tie e)
-    freeing-follows address Free.bad e = (refl, alike.calm Reason.BadFree tt)
-    freeing-follows address (Free.freed f) e =
+    freeing_follows address Free.stopped e = (refl, alike.broken' s.own own' s.memory address tie e)
+    freeing_follows address Free.bad e = (refl, alike.calm Reason.BadFree tt)
+    freeing_follows address (Free.freed f) e =
         (rule'.freeing own' address f, refl, alike.freed s.own own' s.memory address f tie e)
 
-    pub act-follows : (x : Act) → Proper Site x → Follows (actEffect rule given s x) (actEffect rule' given (image s at own') x)
-    act-follows Act.end good = (refl, alike.calm Reason.Finished tt)
-    act-follows (Act.set d n) good = (own', refl, tie)
-    act-follows (Act.place d g) good =
+    pub act_follows : (x : Act) → Proper Site x → Follows (act_effect rule given s x) (act_effect rule' given (image s at own') x)
+    act_follows Act.end good = (refl, alike.calm Reason.Finished tt)
+    act_follows (Act.set d n) good = (own', refl, tie)
+    act_follows (Act.place d g) good =
         (own', ap (λ v. completes (set s.temps d v) s.memory s.outs s.taken own') (alike.starts g), tie)
-    act-follows (Act.add d a b) good = (own', refl, tie)
-    act-follows (Act.sub d a b) good = (own', refl, tie)
-    act-follows (Act.less d a b) good = (own', refl, tie)
-    act-follows (Act.load d a w) good =
+    act_follows (Act.add d a b) good = (own', refl, tie)
+    act_follows (Act.sub d a b) good = (own', refl, tie)
+    act_follows (Act.less d a b) good = (own', refl, tie)
+    act_follows (Act.load d a w) good =
         follows_if (inside (temp s.temps a) (bytes w)) _ _ _ _ (own', refl, tie) (refl, alike.calm Reason.ReadOutside tt)
-    act-follows (Act.alloc d g a) good = allocating-follows d g a good (alloc s.memory (temp s.temps a) g) refl
-    act-follows (Act.free a) good =
+    act_follows (Act.alloc d g a) good = allocating_follows d g a good (alloc s.memory (temp s.temps a) g) refl
+    act_follows (Act.free a) good =
         follows_if (eqb (temp s.temps a) 0) _ _ _ _ (own', refl, tie)
-        (freeing-follows (temp s.temps a) (free s.memory (temp s.temps a)) refl)
-    act-follows (Act.input d) good =
+        (freeing_follows (temp s.temps a) (free s.memory (temp s.temps a)) refl)
+    act_follows (Act.input d) good =
         follows_if (ltb s.taken (length given.input)) _ _ _ _ (own', refl, tie) (refl, alike.calm Reason.NoInput tt)
-    act-follows (Act.output a) good =
+    act_follows (Act.output a) good =
         follows_if (ltb (length s.outs) given.room) _ _ _ _ (own', refl, tie) (refl, alike.calm Reason.NoRoom tt)

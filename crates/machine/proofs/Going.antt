@@ -10,7 +10,7 @@
 use Rattle.std.proofs.Common.{◌≡◌, ℕ, zero, suc, ◌+◌, ◌-◌, ◌*◌, ◌<◌, ◌≤◌, List, ◌++◌, length, get_or, take, drop, replicate, sym, refl, ap, ◌∙◌, subst, ⊎_elim, arith, length-append, take-append-drop, length-take-le, drop-drop, take_at, drop_at}
 use Rattle.opcodes.specs.declared.Instr.{Instr}
 use Rattle.opcodes.specs.View.{view}
-use Rattle.memory.specs.Memory.{memorySize, tableSize}
+use Rattle.memory.specs.Memory.{memory_size, table_size}
 use Rattle.stops.specs.declared.Reason.{Reason}
 use Rattle.machine.specs.declared.Progress.{Progress}
 use Rattle.machine.specs.declared.Turn.{Turn}
@@ -18,9 +18,9 @@ use Rattle.machine.specs.State.{Rule, Given, State}
 use Rattle.machine.specs.Step.{Next, stop, next, perform, step}
 use Rattle.machine.specs.Runs.{stopped, run_from}
 use Rattle.machine.specs.Running.{Lent, Answer, leaves, lent_of, answered}
-use Rattle.machine.specs.Turn.{heldRule, Held, held, state_of, Turned, progressOf, landed, turn_of, recordAt, runHeld}
-use Rattle.machine.proofs.Steps.{step_past, step-limit, step-goes}
-use Rattle.machine.proofs.Turns.{turn_on, turn-stop, Forth, forth, weight, lighter}
+use Rattle.machine.specs.Turn.{held_rule, Held, held, state_of, Turned, progress_of, landed, turn_of, record_at, run_held}
+use Rattle.machine.proofs.Steps.{step_past, step_limit, step_goes}
+use Rattle.machine.proofs.Turns.{turn_on, turn_stop, Forth, forth, weight, lighter}
 
 -- what a run is given, and the room at its start
 pub record Course : Type 0 where
@@ -34,21 +34,21 @@ pub record Course : Type 0 where
 
 module _ (r : Course) where
   abbrev rule : Rule (List ℕ)
-  rule = heldRule r.code r.starts r.colors
+  rule = held_rule r.code r.starts r.colors
 
   abbrev given : Given
   given = record { input = r.input; room = length r.room; limit = r.limit }
 
-  abbrev pub weightOf : Progress → ℕ
-  weightOf p = weight (length r.code) r.limit p.steps p.at
+  abbrev pub weight_of : Progress → ℕ
+  weight_of p = weight (length r.code) r.limit p.steps p.at
 
   pub record Going (h : Held) (p : Progress) : Type 0 where
     pub turns : ℕ
     pub rest : leaves r.room (run_from rule given turns (state_of h p)) ≡ r.answer
-    pub enough : weightOf p < turns
+    pub enough : weight_of p < turns
     pub limited : p.steps ≤ r.limit
-    pub memory : length h.memory ≡ memorySize
-    pub table : length h.table ≡ tableSize
+    pub memory : length h.memory ≡ memory_size
+    pub table : length h.table ≡ table_size
     pub room : length h.room ≡ length r.room
     pub outs : p.out ≤ length h.room
     pub behind : drop p.out h.room ≡ drop p.out r.room
@@ -59,32 +59,32 @@ module _ (r : Course) where
   -- ---- a stop
 
   -- what a stop leaves is what is held
-  stop-leaves : (h : Held) (p : Progress) (reason : Reason) → p.out ≤ length h.room → drop p.out h.room ≡ drop p.out r.room
-      → answered (recordAt r.code p reason) (lent_by h) ≡ leaves r.room (stopped rule given (state_of h p) reason)
-  stop-leaves h p reason fits behind =
+  stop_leaves : (h : Held) (p : Progress) (reason : Reason) → p.out ≤ length h.room → drop p.out h.room ≡ drop p.out r.room
+      → answered (record_at r.code p reason) (lent_by h) ≡ leaves r.room (stopped rule given (state_of h p) reason)
+  stop_leaves h p reason fits behind =
       let long : p.out ≡ length (take p.out h.room) = sym (length-take-le p.out h.room fits) in
       let whole : h.room ≡ take p.out h.room ++ drop (length (take p.out h.room)) r.room =
       sym (take-append-drop p.out h.room) ∙ ap (λ l. take p.out h.room ++ l) behind ∙ ap (λ n. take p.out h.room ++ drop n r.room) long in
-      (λ i. answered (recordAt r.code (record { at = p.at; steps = p.steps; out = long i; taken = p.taken }) reason) (lent_of h.memory h.table (whole i)))
+      (λ i. answered (record_at r.code (record { at = p.at; steps = p.steps; out = long i; taken = p.taken }) reason) (lent_of h.memory h.table (whole i)))
 
   pub stops : (h : Held) (p : Progress) (reason : Reason) → Going h p → step rule given (state_of h p) ≡ stop reason
-      → answered (recordAt r.code p reason) (lent_by h) ≡ r.answer
+      → answered (record_at r.code p reason) (lent_by h) ≡ r.answer
   stops h p reason g e = go g.turns refl
     where
-      go : (turns : ℕ) → g.turns ≡ turns → answered (recordAt r.code p reason) (lent_by h) ≡ r.answer
+      go : (turns : ℕ) → g.turns ≡ turns → answered (record_at r.code p reason) (lent_by h) ≡ r.answer
       go zero q = absurd (omega (arith, g.enough))
       go (suc turns) q =
-          stop-leaves h p reason g.outs g.behind
-          ∙ ap (leaves r.room) (sym (turn-stop rule given turns (state_of h p) reason e) ∙ ap (λ n. run_from rule given n (state_of h p)) (sym q))
+          stop_leaves h p reason g.outs g.behind
+          ∙ ap (leaves r.room) (sym (turn_stop rule given turns (state_of h p) reason e) ∙ ap (λ n. run_from rule given n (state_of h p)) (sym q))
           ∙ g.rest
 
-  pub stops-past : (h : Held) (p : Progress) → Going h p → length r.code ≤ p.at
-      → answered (recordAt r.code p Reason.PastEnd) (lent_by h) ≡ r.answer
-  stops-past h p g past = stops h p Reason.PastEnd g (step_past rule given (state_of h p) past)
+  pub stops_past : (h : Held) (p : Progress) → Going h p → length r.code ≤ p.at
+      → answered (record_at r.code p Reason.PastEnd) (lent_by h) ≡ r.answer
+  stops_past h p g past = stops h p Reason.PastEnd g (step_past rule given (state_of h p) past)
 
-  pub stops-limit : (h : Held) (p : Progress) → Going h p → p.at < length r.code → r.limit ≤ p.steps
-      → answered (recordAt r.code p Reason.LimitUsed) (lent_by h) ≡ r.answer
-  stops-limit h p g here used = stops h p Reason.LimitUsed g (step-limit rule given (state_of h p) here used)
+  pub stops_limit : (h : Held) (p : Progress) → Going h p → p.at < length r.code → r.limit ≤ p.steps
+      → answered (record_at r.code p Reason.LimitUsed) (lent_by h) ≡ r.answer
+  stops_limit h p g here used = stops h p Reason.LimitUsed g (step_limit rule given (state_of h p) here used)
 
   -- ---- a turn
 
@@ -92,30 +92,30 @@ module _ (r : Course) where
   abbrev pub AfterTurn : Progress → Turned → Type 0
   AfterTurn p x =
       elim x.turn [
-        | Turn.Stop reason ↦ answered (recordAt r.code p reason) (lent_by x.after) ≡ r.answer
+        | Turn.Stop reason ↦ answered (record_at r.code p reason) (lent_by x.after) ≡ r.answer
         | Turn.On q ↦
-            (length x.after.memory ≡ memorySize → length x.after.table ≡ tableSize → length x.after.room ≡ length r.room → Going x.after q)
-            × (weightOf q < weightOf p)
+            (length x.after.memory ≡ memory_size → length x.after.table ≡ table_size → length x.after.room ≡ length r.room → Going x.after q)
+            × (weight_of q < weight_of p)
       ]
 
   -- the state that is held after a turn is the definition's next state
-  same-state : (s : State (List ℕ)) (room : List ℕ)
-      → state_of (held s.temps s.memory s.own (s.outs ++ drop (length s.outs) room)) (progressOf s) ≡ s
-  same-state s room =
+  same_state : (s : State (List ℕ)) (room : List ℕ)
+      → state_of (held s.temps s.memory s.own (s.outs ++ drop (length s.outs) room)) (progress_of s) ≡ s
+  same_state s room =
       let first : take (length s.outs) (s.outs ++ drop (length s.outs) room) ≡ s.outs = take_at s.outs (drop (length s.outs) room) (length s.outs) refl in
       (λ i. record { temps = s.temps; memory = s.memory; outs = first i; taken = s.taken; at = s.at; steps = s.steps; own = s.own })
 
-  still-behind : (m n : ℕ) (k l : List ℕ) → m ≤ n → drop m k ≡ drop m l → drop n k ≡ drop n l
-  still-behind m n k l h e =
+  still_behind : (m n : ℕ) (k l : List ℕ) → m ≤ n → drop m k ≡ drop m l → drop n k ≡ drop n l
+  still_behind m n k l h e =
       let sum : m + (n - m) ≡ n = omega arith in
       ap (λ x. drop x k) (sym sum) ∙ sym (drop-drop (n - m) m k) ∙ ap (drop (n - m)) e ∙ drop-drop (n - m) m l ∙ ap (λ x. drop x l) sum
 
-  module _ (h : Held) (p : Progress) (g : Going h p) (in_code : p.at < length r.code) (inLimit : p.steps < r.limit) where
+  module _ (h : Held) (p : Progress) (g : Going h p) (in_code : p.at < length r.code) (in_limit : p.steps < r.limit) where
     goes_on : (s : State (List ℕ)) → step rule given (state_of h p) ≡ next s → Forth rule given (state_of h p) (next s) → AfterTurn p (landed h (next s))
     goes_on s e f = (λ m t l. go m t l g.turns refl, falls)
       where
-        falls : weightOf (progressOf s) < weightOf p
-        falls = lighter (length r.code) r.limit p.steps p.at s.steps s.at in_code inLimit f.0
+        falls : weight_of (progress_of s) < weight_of p
+        falls = lighter (length r.code) r.limit p.steps p.at s.steps s.at in_code in_limit f.0
 
         within : s.steps ≤ r.limit
         within = ⊎_elim (λ one. omega arith) (λ same. omega arith) f.0
@@ -126,14 +126,14 @@ module _ (r : Course) where
         room : List ℕ
         room = s.outs ++ drop (length s.outs) h.room
 
-        go : length s.memory ≡ memorySize → length s.own ≡ tableSize → length (s.outs ++ drop (length s.outs) h.room) ≡ length r.room → (turns : ℕ) → g.turns ≡ turns
-            → Going (held s.temps s.memory s.own (s.outs ++ drop (length s.outs) h.room)) (progressOf s)
+        go : length s.memory ≡ memory_size → length s.own ≡ table_size → length (s.outs ++ drop (length s.outs) h.room) ≡ length r.room → (turns : ℕ) → g.turns ≡ turns
+            → Going (held s.temps s.memory s.own (s.outs ++ drop (length s.outs) h.room)) (progress_of s)
         go m t l zero q = absurd (omega (arith, g.enough))
         go m t l (suc turns) q =
             record {
               turns = turns;
               rest =
-                  ap (λ x. leaves r.room (run_from rule given turns x)) (same-state s h.room)
+                  ap (λ x. leaves r.room (run_from rule given turns x)) (same_state s h.room)
                   ∙ ap (leaves r.room) (sym (turn_on rule given turns (state_of h p) s e) ∙ ap (λ n. run_from rule given n (state_of h p)) (sym q))
                   ∙ g.rest;
               enough = omega (arith, g.enough, falls);
@@ -144,12 +144,12 @@ module _ (r : Course) where
               outs = rw (length-append s.outs (drop (length s.outs) h.room)) (omega arith);
               behind =
                   drop_at s.outs (drop (length s.outs) h.room) (length s.outs) refl
-                  ∙ still-behind p.out (length s.outs) h.room r.room grown g.behind;
+                  ∙ still_behind p.out (length s.outs) h.room r.room grown g.behind;
             }
 
-    turns-well : (n : Next (List ℕ)) → step rule given (state_of h p) ≡ n → Forth rule given (state_of h p) n → AfterTurn p (landed h n)
-    turns-well (stop reason) e f = stops h p reason g e
-    turns-well (next s) e f = goes_on s e f
+    turns_well : (n : Next (List ℕ)) → step rule given (state_of h p) ≡ n → Forth rule given (state_of h p) n → AfterTurn p (landed h n)
+    turns_well (stop reason) e f = stops h p reason g e
+    turns_well (next s) e f = goes_on s e f
 
     -- the code's turn is made with the room as it is and without the code and the limit
     same_turn : turn_of r.starts r.colors r.input h p (get_or r.code p.at Instr.End)
@@ -159,16 +159,16 @@ module _ (r : Course) where
     pub after_turn : AfterTurn p (turn_of r.starts r.colors r.input h p (get_or r.code p.at Instr.End))
     after_turn =
         subst (AfterTurn p) (sym same_turn)
-        (turns-well (perform rule given (state_of h p) (view (get_or r.code p.at Instr.End))) (step-goes rule given (state_of h p) in_code inLimit)
+        (turns_well (perform rule given (state_of h p) (view (get_or r.code p.at Instr.End))) (step_goes rule given (state_of h p) in_code in_limit)
         (forth rule given (state_of h p) (view (get_or r.code p.at Instr.End))))
 
 -- ---- the start
 
-pub starts-off : (code : List Instr) (starts colors input : List ℕ) (limit : ℕ) (memory table room : List ℕ)
-    → length memory ≡ memorySize → length table ≡ tableSize
-    → Going (record { code = code; starts = starts; colors = colors; input = input; limit = limit; room = room; answer = runHeld code starts colors input limit (lent_of memory table room) })
+pub starts_off : (code : List Instr) (starts colors input : List ℕ) (limit : ℕ) (memory table room : List ℕ)
+    → length memory ≡ memory_size → length table ≡ table_size
+    → Going (record { code = code; starts = starts; colors = colors; input = input; limit = limit; room = room; answer = run_held code starts colors input limit (lent_of memory table room) })
     (held (replicate 16 0) memory table room) (record { at = 0; steps = 0; out = 0; taken = 0 })
-starts-off code starts colors input limit memory table room m t =
+starts_off code starts colors input limit memory table room m t =
     let all : limit - 0 ≡ limit = omega arith in
     record {
       turns = (limit + 1) * (length code + 1);

@@ -1,12 +1,12 @@
 -- A turn for any rule: how a run goes on with it, and that it goes forward: a completed instruction costs
 -- a step, a check goes on by one, and numbers out stay.
 use Rattle.std.proofs.Common.{◌≡◌, ℕ, suc, ◌+◌, ◌-◌, ◌*◌, ◌<◌, ◌≤◌, min, Bool, true, false, eqb, ltb, ◌⊎◌, [], ◌∷◌, ◌++◌, length, refl, inl, inr, arith, length-append}
-use Rattle.opcodes.specs.View.{View, Act, act, jump, jumpIf, store, check, bytes}
+use Rattle.opcodes.specs.View.{View, Act, act, jump, jump_if, store, check, bytes}
 use Rattle.memory.specs.Memory.{inside}
 use Rattle.heap.specs.Heap.{Alloc, Free, alloc, free}
 use Rattle.stops.specs.declared.Reason.{Reason}
 use Rattle.machine.specs.State.{Rule, Given, State, temp, address_of, width_of}
-use Rattle.machine.specs.Step.{Effect, stops, passes, completes, Next, stop, next, conclude, allocating, freeing, actEffect, effect, lets, perform, step}
+use Rattle.machine.specs.Step.{Effect, stops, passes, completes, Next, stop, next, conclude, allocating, freeing, act_effect, effect, lets, perform, step}
 use Rattle.machine.specs.Runs.{stopped, run_from}
 
 -- a reason that is no refusal
@@ -31,10 +31,10 @@ module _ {S : Type 0} (rule : Rule S) (given : Given) where
   unfolding run_from
   turn_on turns state after e = rw (e, run_from)
 
-  pub turn-stop : (turns : ℕ) (state : State S) (reason : Reason) → step rule given state ≡ stop reason
+  pub turn_stop : (turns : ℕ) (state : State S) (reason : Reason) → step rule given state ≡ stop reason
       → run_from rule given (suc turns) state ≡ stopped rule given state reason
   unfolding run_from
-  turn-stop turns state reason e = rw (e, run_from)
+  turn_stop turns state reason e = rw (e, run_from)
 
   -- ---- a turn goes forward
 
@@ -66,28 +66,28 @@ module _ {S : Type 0} (rule : Rule S) (given : Given) where
     alloc_keeps d g Alloc.nothing = same
     alloc_keeps d g (Alloc.made k) = same
 
-    free-keeps : (address : ℕ) (f : Free) → Keeps (freeing rule given state address f)
-    free-keeps address Free.stopped = tt
-    free-keeps address Free.bad = tt
-    free-keeps address (Free.freed f) = same
+    free_keeps : (address : ℕ) (f : Free) → Keeps (freeing rule given state address f)
+    free_keeps address Free.stopped = tt
+    free_keeps address Free.bad = tt
+    free_keeps address (Free.freed f) = same
 
-    act-keeps : (x : Act) → Keeps (actEffect rule given state x)
-    act-keeps Act.end = tt
-    act-keeps (Act.set d n) = same
-    act-keeps (Act.place d g) = same
-    act-keeps (Act.add d a b) = same
-    act-keeps (Act.sub d a b) = same
-    act-keeps (Act.less d a b) = same
-    act-keeps (Act.load d a w) = either (inside (temp state.temps a) (bytes w)) _ _ same tt
-    act-keeps (Act.alloc d g a) = alloc_keeps d g (alloc state.memory (temp state.temps a) g)
-    act-keeps (Act.free a) = either (eqb (temp state.temps a) 0) _ _ same (free-keeps (temp state.temps a) (free state.memory (temp state.temps a)))
-    act-keeps (Act.input d) = either (ltb state.taken (length given.input)) _ _ same tt
-    act-keeps (Act.output a) = either (ltb (length state.outs) given.room) _ _ (one_more (temp state.temps a)) tt
+    act_keeps : (x : Act) → Keeps (act_effect rule given state x)
+    act_keeps Act.end = tt
+    act_keeps (Act.set d n) = same
+    act_keeps (Act.place d g) = same
+    act_keeps (Act.add d a b) = same
+    act_keeps (Act.sub d a b) = same
+    act_keeps (Act.less d a b) = same
+    act_keeps (Act.load d a w) = either (inside (temp state.temps a) (bytes w)) _ _ same tt
+    act_keeps (Act.alloc d g a) = alloc_keeps d g (alloc state.memory (temp state.temps a) g)
+    act_keeps (Act.free a) = either (eqb (temp state.temps a) 0) _ _ same (free_keeps (temp state.temps a) (free state.memory (temp state.temps a)))
+    act_keeps (Act.input d) = either (ltb state.taken (length given.input)) _ _ same tt
+    act_keeps (Act.output a) = either (ltb (length state.outs) given.room) _ _ (one_more (temp state.temps a)) tt
 
     keeps : (v : View) → Keeps (effect rule given state v)
-    keeps (act x) = act-keeps x
+    keeps (act x) = act_keeps x
     keeps (jump p) = same
-    keeps (jumpIf a p) = same
+    keeps (jump_if a p) = same
     keeps (store aim b s) = either (inside (address_of rule.start state.temps aim) (width_of aim)) _ _ same tt
     keeps (check aim c) = tt
 
@@ -112,12 +112,12 @@ weight code limit steps at = (limit - steps) * (code + 1) + (code - min at code)
 
 pub lighter : (code limit steps at steps' at' : ℕ) → at < code → steps < limit
     → (steps' ≡ steps + 1) ⊎ ((steps' ≡ steps) × (at' ≡ at + 1)) → weight code limit steps' at' < weight code limit steps at
-lighter code limit steps at steps' at' in_code inLimit (inl one) = go (limit - steps') refl
+lighter code limit steps at steps' at' in_code in_limit (inl one) = go (limit - steps') refl
   where
     go : (left : ℕ) → limit - steps' ≡ left → weight code limit steps' at' < weight code limit steps at
     go left e =
         let more : limit - steps ≡ suc left = omega arith in
         rw (e, more) (omega arith)
-lighter code limit steps at steps' at' in_code inLimit (inr same) =
+lighter code limit steps at steps' at' in_code in_limit (inr same) =
     let still : limit - steps' ≡ limit - steps = omega arith in
     rw (still) (omega arith)

@@ -3,28 +3,28 @@
 use Rattle.std.specs.Prelude.{ℕ, Bool, true, List, slice_index_or}
 use Rattle.files.specs.declared.Object.{Object}
 use Rattle.files.specs.Program.{Program}
-use Rattle.opcodes.specs.View.{View, act, jump, jumpIf, store, check}
+use Rattle.opcodes.specs.View.{View, act, jump, jump_if, store, check}
 use Rattle.layout.specs.Layout.{pieces_of, start_of}
-use Rattle.memory.specs.Memory.{hasColor, everyByte}
-use Rattle.heap.specs.Heap.{paintMade, paintFreed}
+use Rattle.memory.specs.Memory.{has_color, every_byte}
+use Rattle.heap.specs.Heap.{paint_made, paint_freed}
 use Rattle.machine.specs.State.{Span, Rule}
 
-abbrev pub tableAllows : (table : List ℕ) → View → Span → Bool
-tableAllows table (act x) span = true
-tableAllows table (jump p) span = true
-tableAllows table (jumpIf a p) span = true
-tableAllows table (store aim b s) span = true
-tableAllows table (check aim c) span = everyByte span.count (hasColor table c) span.address
+abbrev pub table_allows : (table : List ℕ) → View → Span → Bool
+table_allows table (act x) span = true
+table_allows table (jump p) span = true
+table_allows table (jump_if a p) span = true
+table_allows table (store aim b s) span = true
+table_allows table (check aim c) span = every_byte span.count (has_color table c) span.address
 
-abbrev pub colorOfObject : List Object → (g : ℕ) → ℕ
-colorOfObject objects g = (slice_index_or objects g (record { kind = 0; size = 0; color = 0 })).color
+abbrev pub color_of_object : List Object → (g : ℕ) → ℕ
+color_of_object objects g = (slice_index_or objects g (record { kind = 0; size = 0; color = 0 })).color
 
-unfoldable pub tableRule : Program → Rule (List ℕ)
-tableRule p =
+unfoldable pub table_rule : Program → Rule (List ℕ)
+table_rule p =
     record {
       code = p.code;
       start = start_of (pieces_of p.objects);
-      allows = tableAllows;
-      making = λ table site k. paintMade table (colorOfObject p.objects site) k;
-      freeing = λ table address f. paintFreed table f;
+      allows = table_allows;
+      making = λ table site k. paint_made table (color_of_object p.objects site) k;
+      freeing = λ table address f. paint_freed table f;
     }

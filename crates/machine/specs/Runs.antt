@@ -2,8 +2,8 @@
 use Rattle.std.specs.Prelude.{ℕ, zero, suc, ◌+◌, ◌*◌, List, length}
 use Rattle.stops.specs.declared.Reason.{Reason}
 use Rattle.stops.specs.declared.Run.{Run}
-use Rattle.stops.specs.Stop.{recordOf}
-use Rattle.machine.specs.State.{Rule, Given, State, startState}
+use Rattle.stops.specs.Stop.{record_of}
+use Rattle.machine.specs.State.{Rule, Given, State, start_state}
 use Rattle.machine.specs.Step.{stop, next, step}
 
 -- "A run gives reason, place, steps, numbers out, numbers taken", and it leaves the numbers themselves,
@@ -19,7 +19,7 @@ module _ {S : Type 0} (rule : Rule S) (given : Given) where
   abbrev pub stopped : State S → Reason → Outcome S
   stopped state reason =
       record {
-        run = recordOf rule.code state.at state.steps (length state.outs) state.taken reason;
+        run = record_of rule.code state.at state.steps (length state.outs) state.taken reason;
         outs = state.outs;
         memory = state.memory;
         own = state.own;
@@ -33,8 +33,8 @@ module _ {S : Type 0} (rule : Rule S) (given : Given) where
 
   -- checks cost no step, so a step may take as many turns as there are instructions: this is enough,
   -- and the limit is met before the turns are
-  abbrev pub turnsFor : ℕ
-  turnsFor = (given.limit + 1) * (length rule.code + 1)
+  abbrev pub turns_for : ℕ
+  turns_for = (given.limit + 1) * (length rule.code + 1)
 
   unfoldable pub runs : S → Outcome S
-  runs own = run_from turnsFor (startState own)
+  runs own = run_from turns_for (start_state own)

@@ -3,9 +3,9 @@
 -- objects.
 use Rattle.std.specs.Prelude.{ℕ, ◌+◌, Bool, List, [], replicate, slice_index}
 use Rattle.opcodes.specs.declared.Instr.{Instr}
-use Rattle.opcodes.specs.View.{bytes, Aim, inGlobal, atTemp, View}
+use Rattle.opcodes.specs.View.{bytes, Aim, in_global, at_temp, View}
 use Rattle.heap.specs.Heap.{Made, Freed}
-use Rattle.start.specs.First.{firstMemory}
+use Rattle.start.specs.First.{first_memory}
 
 -- the bytes that a store or a check aims at: so many from an address on
 pub record Span : Type 0 where
@@ -39,11 +39,11 @@ pub record State (S : Type 0) : Type 0 where
   pub own : S
 
 -- "16 temporaries of 32 bits, all 0 at the start"
-abbrev pub startState : {S : Type 0} → S → State S
-startState own =
+abbrev pub start_state : {S : Type 0} → S → State S
+start_state own =
     record {
       temps = replicate 16 0;
-      memory = firstMemory;
+      memory = first_memory;
       outs = [];
       taken = 0;
       at = 0;
@@ -56,13 +56,13 @@ temp temps a = slice_index temps a
 
 -- "Addresses do not wrap": the address that an aim points at
 abbrev pub address_of : (start : ℕ → ℕ) (temps : List ℕ) → Aim → ℕ
-address_of start temps (inGlobal g k w) = start g + k
-address_of start temps (atTemp a w) = temp temps a
+address_of start temps (in_global g k w) = start g + k
+address_of start temps (at_temp a w) = temp temps a
 
 -- how many bytes an aim covers
 abbrev pub width_of : Aim → ℕ
-width_of (inGlobal g k w) = bytes w
-width_of (atTemp a w) = bytes w
+width_of (in_global g k w) = bytes w
+width_of (at_temp a w) = bytes w
 
 abbrev pub span_of : (start : ℕ → ℕ) (temps : List ℕ) → Aim → Span
 span_of start temps aim = record { address = address_of start temps aim; count = width_of aim }

@@ -1,7 +1,7 @@
 -- 01, "Running" and the table of opcodes: one step. The rule is asked first, the effect comes after.
 use Rattle.std.specs.Prelude.{ℕ, ◌+◌, ◌-◌, ◌%◌, ◌^◌, Bool, true, false, List, [], ◌∷◌, ◌++◌, length, ◌==◌, nat_lt, slice_index, slice_index_or, slice_set}
 use Rattle.opcodes.specs.declared.Instr.{Instr}
-use Rattle.opcodes.specs.View.{Aim, bytes, Act, View, act, jump, jumpIf, store, check, view}
+use Rattle.opcodes.specs.View.{Aim, bytes, Act, View, act, jump, jump_if, store, check, view}
 use Rattle.memory.specs.Memory.{bytes_of, number_at, put, inside}
 use Rattle.heap.specs.Heap.{Alloc, Free, alloc, free}
 use Rattle.stops.specs.declared.Reason.{Reason}
@@ -60,24 +60,24 @@ module _ {S : Type 0} (rule : Rule S) (given : Given) (state : State S) where
   freeing address (Free.freed f) =
       completes state.temps f.memory state.outs state.taken (rule.freeing state.own address f)
 
-  abbrev pub actEffect : Act → Effect S
-  actEffect Act.end = stops Reason.Finished
-  actEffect (Act.set d n) = becomes d n
-  actEffect (Act.place d g) = becomes d (rule.start g)
-  actEffect (Act.add d a b) = becomes d ((value a + value b) % 2 ^ 32)
-  actEffect (Act.sub d a b) = becomes d ((value a + 2 ^ 32 - value b) % 2 ^ 32)
-  actEffect (Act.less d a b) = becomes d (elim (nat_lt (value a) (value b)) [ true ↦ 1 | false ↦ 0 ])
-  actEffect (Act.load d a w) = loading d (value a) (bytes w)
-  actEffect (Act.alloc d g a) = allocating d g (alloc state.memory (value a) g)
-  actEffect (Act.free a) =
+  abbrev pub act_effect : Act → Effect S
+  act_effect Act.end = stops Reason.Finished
+  act_effect (Act.set d n) = becomes d n
+  act_effect (Act.place d g) = becomes d (rule.start g)
+  act_effect (Act.add d a b) = becomes d ((value a + value b) % 2 ^ 32)
+  act_effect (Act.sub d a b) = becomes d ((value a + 2 ^ 32 - value b) % 2 ^ 32)
+  act_effect (Act.less d a b) = becomes d (elim (nat_lt (value a) (value b)) [ true ↦ 1 | false ↦ 0 ])
+  act_effect (Act.load d a w) = loading d (value a) (bytes w)
+  act_effect (Act.alloc d g a) = allocating d g (alloc state.memory (value a) g)
+  act_effect (Act.free a) =
       elim (value a == 0) [ true ↦ unchanged | false ↦ freeing (value a) (free state.memory (value a)) ]
-  actEffect (Act.input d) =
+  act_effect (Act.input d) =
       elim (nat_lt state.taken (length given.input)) [
         | true ↦
             completes (slice_set state.temps d (slice_index given.input state.taken)) state.memory state.outs (state.taken + 1) state.own
         | false ↦ stops Reason.NoInput
       ]
-  actEffect (Act.output a) =
+  act_effect (Act.output a) =
       elim (nat_lt (length state.outs) given.room) [
         | true ↦ completes state.temps state.memory (state.outs ++ value a ∷ []) state.taken state.own
         | false ↦ stops Reason.NoRoom
@@ -88,9 +88,9 @@ module _ {S : Type 0} (rule : Rule S) (given : Given) (state : State S) where
   aimed aim = span_of rule.start state.temps aim
 
   abbrev pub effect : View → Effect S
-  effect (act x) = actEffect x
+  effect (act x) = act_effect x
   effect (jump p) = unchanged
-  effect (jumpIf a p) = unchanged
+  effect (jump_if a p) = unchanged
   effect (store aim b s) = storing (aimed aim) (value b)
   effect (check aim c) = passes
 
@@ -98,7 +98,7 @@ module _ {S : Type 0} (rule : Rule S) (given : Given) (state : State S) where
   abbrev pub lets : View → Bool
   lets (act x) = true
   lets (jump p) = true
-  lets (jumpIf a p) = true
+  lets (jump_if a p) = true
   lets (store aim b s) = rule.allows state.own (store aim b s) (aimed aim)
   lets (check aim c) = rule.allows state.own (check aim c) (aimed aim)
 
@@ -106,7 +106,7 @@ module _ {S : Type 0} (rule : Rule S) (given : Given) (state : State S) where
   abbrev pub next_at : View → ℕ
   next_at (act x) = state.at + 1
   next_at (jump p) = p
-  next_at (jumpIf a p) = elim (value a == 0) [ true ↦ state.at + 1 | false ↦ p ]
+  next_at (jump_if a p) = elim (value a == 0) [ true ↦ state.at + 1 | false ↦ p ]
   next_at (store aim b s) = state.at + 1
   next_at (check aim c) = state.at + 1
 

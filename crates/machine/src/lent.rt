@@ -1,11 +1,11 @@
 // The instructions that go to memory and to the table, through the heap's functions.
 ghost use Rattle.std.specs.Prelude.{◌≡◌, ◌+◌, ◌<◌, length, slice_index};
-ghost use Rattle.memory.specs.Memory.{everyByte, hasColor};
+ghost use Rattle.memory.specs.Memory.{every_byte, has_color};
 ghost use Rattle.memory.specs.Lent.{within, loaded, stored};
 ghost use Rattle.heap.specs.Lent.{allocated};
 ghost use Rattle.machine.specs.State.{temp};
-ghost use Rattle.machine.specs.Turn.{Counts, Low, loadTurn, loadTemps, storeTurn, checkTurn};
-ghost use Rattle.machine.specs.Turn.{allocTurn, allocTemps, releaseTurn, freeAt};
+ghost use Rattle.machine.specs.Turn.{Counts, Low, load_turn, load_temps, store_turn, check_turn};
+ghost use Rattle.machine.specs.Turn.{alloc_turn, alloc_temps, release_turn, free_at};
 ghost use Rattle.machine.specs.declared.Turn.{Turn};
 
 use super::temps::{becomes, completed, passed, value};
@@ -40,8 +40,8 @@ fn color_of(colors: &[u8], g: u16) -> u8
 
 pub(crate) fn load8(memory: &[u8], temps: &mut [u32], from: Progress, d: u8, a: u8) -> Turn
     requires { (Counts from) × (d < length temps.old) × (a < length temps.old) }
-    ensures value { result ≡ loadTurn from (loaded 1 memory.now (temp temps.old a)) }
-    ensures temps_after { temps.new ≡ loadTemps temps.old d (loaded 1 memory.now (temp temps.old a)) }
+    ensures value { result ≡ load_turn from (loaded 1 memory.now (temp temps.old a)) }
+    ensures temps_after { temps.new ≡ load_temps temps.old d (loaded 1 memory.now (temp temps.old a)) }
 {
     let found = memory::bytes::load8(memory, value(temps, a));
     match found {
@@ -52,8 +52,8 @@ pub(crate) fn load8(memory: &[u8], temps: &mut [u32], from: Progress, d: u8, a: 
 
 pub(crate) fn load32(memory: &[u8], temps: &mut [u32], from: Progress, d: u8, a: u8) -> Turn
     requires { (Counts from) × (d < length temps.old) × (a < length temps.old) }
-    ensures value { result ≡ loadTurn from (loaded 4 memory.now (temp temps.old a)) }
-    ensures temps_after { temps.new ≡ loadTemps temps.old d (loaded 4 memory.now (temp temps.old a)) }
+    ensures value { result ≡ load_turn from (loaded 4 memory.now (temp temps.old a)) }
+    ensures temps_after { temps.new ≡ load_temps temps.old d (loaded 4 memory.now (temp temps.old a)) }
 {
     let found = memory::bytes::load32(memory, value(temps, a));
     match found {
@@ -65,7 +65,7 @@ pub(crate) fn load32(memory: &[u8], temps: &mut [u32], from: Progress, d: u8, a:
 // The low byte of a temporary is written at an address.
 pub(crate) fn store8(memory: &mut [u8], temps: &[u32], from: Progress, address: u32, b: u8) -> Turn
     requires { (Counts from) × (b < length temps.now) }
-    ensures value { result ≡ storeTurn from (within 1 memory.old address) }
+    ensures value { result ≡ store_turn from (within 1 memory.old address) }
     ensures memory_after { memory.new ≡ stored 1 memory.old address (temp temps.now b) }
 {
     if memory::bytes::store8(memory, address, value(temps, b)) {
@@ -77,7 +77,7 @@ pub(crate) fn store8(memory: &mut [u8], temps: &[u32], from: Progress, address: 
 // The four bytes of a temporary are written from an address on.
 pub(crate) fn store32(memory: &mut [u8], temps: &[u32], from: Progress, address: u32, b: u8) -> Turn
     requires { (Counts from) × (b < length temps.now) }
-    ensures value { result ≡ storeTurn from (within 4 memory.old address) }
+    ensures value { result ≡ store_turn from (within 4 memory.old address) }
     ensures memory_after { memory.new ≡ stored 4 memory.old address (temp temps.now b) }
 {
     if memory::bytes::store32(memory, address, value(temps, b)) {
@@ -89,7 +89,7 @@ pub(crate) fn store32(memory: &mut [u8], temps: &[u32], from: Progress, address:
 // A check that the table allows passes, and costs no step.
 pub(crate) fn check8(table: &[u8], from: Progress, address: u32, color: u8) -> Turn
     requires { Counts from }
-    ensures { result ≡ checkTurn from (everyByte 1 (hasColor table.now color) address) }
+    ensures { result ≡ check_turn from (every_byte 1 (has_color table.now color) address) }
 {
     if memory::colors::check8(table, address, color) {
         return passed(from);
@@ -99,7 +99,7 @@ pub(crate) fn check8(table: &[u8], from: Progress, address: u32, color: u8) -> T
 
 pub(crate) fn check32(table: &[u8], from: Progress, address: u32, color: u8) -> Turn
     requires { Counts from }
-    ensures { result ≡ checkTurn from (everyByte 4 (hasColor table.now color) address) }
+    ensures { result ≡ check_turn from (every_byte 4 (has_color table.now color) address) }
 {
     if memory::colors::check32(table, address, color) {
         return passed(from);
@@ -119,8 +119,8 @@ pub(crate) fn alloc(
     a: u8,
 ) -> Turn
     requires { (Counts from) × (d < length temps.old) × (a < length temps.old) }
-    ensures value { result ≡ allocTurn from (allocated memory.old table.old (temp temps.old a) g (slice_index colors.now g)).answer }
-    ensures temps_after { temps.new ≡ allocTemps temps.old d (allocated memory.old table.old (temp temps.old a) g (slice_index colors.now g)).answer }
+    ensures value { result ≡ alloc_turn from (allocated memory.old table.old (temp temps.old a) g (slice_index colors.now g)).answer }
+    ensures temps_after { temps.new ≡ alloc_temps temps.old d (allocated memory.old table.old (temp temps.old a) g (slice_index colors.now g)).answer }
     ensures memory_after { memory.new ≡ (allocated memory.old table.old (temp temps.old a) g (slice_index colors.now g)).memory }
     ensures table_after { table.new ≡ (allocated memory.old table.old (temp temps.old a) g (slice_index colors.now g)).table }
 {
@@ -144,9 +144,9 @@ pub(crate) fn free(
     a: u8,
 ) -> Turn
     requires { (Counts from) × (a < length temps.now) }
-    ensures value { result ≡ releaseTurn from (freeAt memory.old table.old (temp temps.now a)).answer }
-    ensures memory_after { memory.new ≡ (freeAt memory.old table.old (temp temps.now a)).memory }
-    ensures table_after { table.new ≡ (freeAt memory.old table.old (temp temps.now a)).table }
+    ensures value { result ≡ release_turn from (free_at memory.old table.old (temp temps.now a)).answer }
+    ensures memory_after { memory.new ≡ (free_at memory.old table.old (temp temps.now a)).memory }
+    ensures table_after { table.new ≡ (free_at memory.old table.old (temp temps.now a)).table }
 {
     let address = value(temps, a);
     if address == 0 {

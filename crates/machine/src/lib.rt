@@ -1,6 +1,6 @@
 // The machine: runs any version 2 file on lent memory, table and output room.
 ghost use Rattle.std.specs.Prelude.{◌≡◌};
-ghost use Rattle.machine.specs.Running.{runFile, answered, lent_of};
+ghost use Rattle.machine.specs.Running.{run_file, answered, lent_of};
 
 use files::Outcome;
 use memory::lengths::are_exact;
@@ -42,7 +42,7 @@ pub fn run_file(
     room: &mut [u32],
     limit: u32,
 ) -> Run
-    ensures { answered result (lent_of memory.new table.new room.new) ≡ runFile file.now input.now limit (lent_of memory.old table.old room.old) }
+    ensures { answered result (lent_of memory.new table.new room.new) ≡ run_file file.now input.now limit (lent_of memory.old table.old room.old) }
 {
     if !are_exact(memory, table) {
         return refused(Refusal {

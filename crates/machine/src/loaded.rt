@@ -1,6 +1,6 @@
 // A run of what was read, from its start on.
 ghost use Rattle.std.specs.Prelude.{◌≡◌};
-ghost use Rattle.machine.specs.Start.{Runnable, runLoaded};
+ghost use Rattle.machine.specs.Start.{Runnable, run_loaded};
 ghost use Rattle.machine.specs.Running.{answered, lent_of};
 
 use super::running::run_code;
@@ -18,7 +18,7 @@ pub(crate) fn run_loaded(
     room: &mut [u32],
 ) -> Run
     requires { Runnable held (lent_of memory.old table.old room.old) }
-    ensures { answered result (lent_of memory.new table.new room.new) ≡ runLoaded held input.now limit (lent_of memory.old table.old room.old) }
+    ensures { answered result (lent_of memory.new table.new room.new) ≡ run_loaded held input.now limit (lent_of memory.old table.old room.old) }
 {
     let kinds = held.kinds;
     let sizes = held.sizes;

@@ -1,8 +1,8 @@
 // The run loop. It holds the decoded instructions and copies nothing but one of them in a turn.
 ghost use Rattle.std.specs.Prelude.{◌≡◌, ◌≤◌, length};
-ghost use Rattle.memory.specs.Memory.{memorySize, tableSize};
+ghost use Rattle.memory.specs.Memory.{memory_size, table_size};
 ghost use Rattle.stops.specs.Held.{code_of};
-ghost use Rattle.machine.specs.Turn.{Low, AllNarrow, runHeld};
+ghost use Rattle.machine.specs.Turn.{Low, AllNarrow, run_held};
 ghost use Rattle.machine.specs.Running.{answered, lent_of};
 
 use super::step::step;
@@ -22,8 +22,8 @@ pub(crate) fn run_code(
     table: &mut [u8],
     room: &mut [u32],
 ) -> Run
-    requires { (lines ≤ 2000) × (Low starts) × (length memory.old ≡ memorySize) × (length table.old ≡ tableSize) × (AllNarrow (code_of code lines)) }
-    ensures { answered result (lent_of memory.new table.new room.new) ≡ runHeld (code_of code lines) starts colors input.now limit (lent_of memory.old table.old room.old) }
+    requires { (lines ≤ 2000) × (Low starts) × (length memory.old ≡ memory_size) × (length table.old ≡ table_size) × (AllNarrow (code_of code lines)) }
+    ensures { answered result (lent_of memory.new table.new room.new) ≡ run_held (code_of code lines) starts colors input.now limit (lent_of memory.old table.old room.old) }
 {
     let mut temps = [0u32; 16];
     let mut now = Progress {

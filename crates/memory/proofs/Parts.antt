@@ -9,17 +9,17 @@ use lib.Seq.{drop-length, length-take-le, drop-drop}
 use mathlib.Core.Bool.{true, false}
 use borrow.Author.Tests.{le-leb, lt-leb}
 use Rattle.memory.specs.declared.Load.{Load}
-use Rattle.memory.specs.Lent.{within, numberWithin, loaded, stored}
+use Rattle.memory.specs.Lent.{within, number_within, loaded, stored}
 use Rattle.memory.specs.Memory.{number_at, bytes_of, put, fill}
 
-pub number-1 : (m : List ℕ) (a : ℕ) → number_at 1 m a ≡ get_or m a 0
+pub number_1 : (m : List ℕ) (a : ℕ) → number_at 1 m a ≡ get_or m a 0
 unfolding number_at
-number-1 m a = omega arith
+number_1 m a = omega arith
 
-pub number-4 : (m : List ℕ) (a : ℕ) → number_at 4 m a ≡ get_or m a 0 + 256 *
+pub number_4 : (m : List ℕ) (a : ℕ) → number_at 4 m a ≡ get_or m a 0 + 256 *
     (get_or m (a + 1) 0 + 256 * (get_or m (a + 2) 0 + 256 * get_or m (a + 3) 0))
 unfolding number_at
-number-4 m a =
+number_4 m a =
     let two : a + 1 + 1 ≡ a + 2 = omega arith in
     let three : a + 2 + 1 ≡ a + 3 = omega arith in
     rw (two, three) (omega arith)
@@ -40,27 +40,27 @@ put_4 m a v =
 
 -- ---- what a load answers and a store leaves
 
-pub number-outside : (n : ℕ) (m : List ℕ) (a : ℕ) → length m < a + n → 0 ≡ numberWithin n m a
-number-outside n m a h = rw (lt-leb (a + n) (length m) h, numberWithin) refl
+pub number_outside : (n : ℕ) (m : List ℕ) (a : ℕ) → length m < a + n → 0 ≡ number_within n m a
+number_outside n m a h = rw (lt-leb (a + n) (length m) h, number_within) refl
 
 module _ (n : ℕ) (m : List ℕ) (a v : ℕ) where
   pub load_inside : a + n ≤ length m → v ≡ number_at n m a → Load.Value v ≡ loaded n m a
   load_inside h e = rw (le-leb (a + n) (length m) h, loaded, e) refl
 
-  pub load-outside : length m < a + n → Load.Outside ≡ loaded n m a
-  load-outside h = rw (lt-leb (a + n) (length m) h, loaded) refl
+  pub load_outside : length m < a + n → Load.Outside ≡ loaded n m a
+  load_outside h = rw (lt-leb (a + n) (length m) h, loaded) refl
 
-  pub store-inside : (after : List ℕ) → a + n ≤ length m → after ≡ put m a (bytes_of n v) → (true ≡ within n m a) × (after ≡ stored n m a v)
-  store-inside after h e = (sym (le-leb (a + n) (length m) h), rw (le-leb (a + n) (length m) h, stored) e)
+  pub store_inside : (after : List ℕ) → a + n ≤ length m → after ≡ put m a (bytes_of n v) → (true ≡ within n m a) × (after ≡ stored n m a v)
+  store_inside after h e = (sym (le-leb (a + n) (length m) h), rw (le-leb (a + n) (length m) h, stored) e)
 
-  pub store-outside : length m < a + n → (false ≡ within n m a) × (m ≡ stored n m a v)
-  store-outside h = (sym (lt-leb (a + n) (length m) h), rw (lt-leb (a + n) (length m) h, stored) refl)
+  pub store_outside : length m < a + n → (false ≡ within n m a) × (m ≡ stored n m a v)
+  store_outside h = (sym (lt-leb (a + n) (length m) h), rw (lt-leb (a + n) (length m) h, stored) refl)
 
 -- ---- a filled part
 
 -- a part of which as many elements were filled as it has
-pub filled-whole : (part : List ℕ) (i v : ℕ) → length part ≡ i → replicate i v ++ drop i part ≡ replicate (length part) v
-filled-whole part i v e = rw (← e) (ap (λ r. replicate (length part) v ++ r) (drop-length part) ∙ append-nil (replicate (length part) v))
+pub filled_whole : (part : List ℕ) (i v : ℕ) → length part ≡ i → replicate i v ++ drop i part ≡ replicate (length part) v
+filled_whole part i v e = rw (← e) (ap (λ r. replicate (length part) v ++ r) (drop-length part) ∙ append-nil (replicate (length part) v))
 
 -- a part that was lent on and came back filled: n elements from index a on
 pub part_filled : (l : List ℕ) (a n v k : ℕ) (part : List ℕ) → k ≡ n → a + n ≤ length l → part ≡ replicate (length (take k (drop a l))) v

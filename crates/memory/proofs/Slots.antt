@@ -9,102 +9,102 @@ use native.Mathlib.Omega.{arith}
 use lib.ListN.{length, get_or, get_or-eq_default}
 use lib.Dec.{eqb}
 use borrow.Author.Tests.{le-leb, lt-leb, lt-ltb, le-ltb, eq-eqb, ne_eqb, eqb-true, eqb-false}
-use Rattle.memory.specs.Memory.{memorySize, slot, colorAt, hasColor, everyByte, paint}
+use Rattle.memory.specs.Memory.{memory_size, slot, color_at, has_color, every_byte, paint}
 use Rattle.memory.specs.Lent.{painted}
 
 -- a byte that fails decides
-pub every-fails : (n : ℕ) (test : ℕ → Bool) (a k : ℕ) → k < n → test (a + k) ≡ false → everyByte n test a ≡ false
-unfolding everyByte
-every-fails zero test a k h e = absurd (not-suc-le-zero h)
-every-fails (suc n) test a zero h e =
+pub every_fails : (n : ℕ) (test : ℕ → Bool) (a k : ℕ) → k < n → test (a + k) ≡ false → every_byte n test a ≡ false
+unfolding every_byte
+every_fails zero test a k h e = absurd (not-suc-le-zero h)
+every_fails (suc n) test a zero h e =
     let start : a + 0 ≡ a = omega arith in
-    rw (ap test (sym start) ∙ e, everyByte) refl
-every-fails (suc n) test a (suc k) h e =
-    go (test a) refl (every-fails n test (a + 1) k (le_of_suc-le-suc h) (ap test (omega arith) ∙ e))
+    rw (ap test (sym start) ∙ e, every_byte) refl
+every_fails (suc n) test a (suc k) h e =
+    go (test a) refl (every_fails n test (a + 1) k (le_of_suc-le-suc h) (ap test (omega arith) ∙ e))
   where
-    go : (b : Bool) → test a ≡ b → everyByte n test (a + 1) ≡ false → everyByte (suc n) test a ≡ false
-    go true t later = rw (t, everyByte) later
-    go false t later = rw (t, everyByte) refl
+    go : (b : Bool) → test a ≡ b → every_byte n test (a + 1) ≡ false → every_byte (suc n) test a ≡ false
+    go true t later = rw (t, every_byte) later
+    go false t later = rw (t, every_byte) refl
 
 -- every byte passes
-pub every-passes : (n : ℕ) (test : ℕ → Bool) (a : ℕ) → ((k : ℕ) → k < n → test (a + k) ≡ true) → everyByte n test a ≡ true
-unfolding everyByte
-every-passes zero test a h = refl
-every-passes (suc n) test a h =
+pub every_passes : (n : ℕ) (test : ℕ → Bool) (a : ℕ) → ((k : ℕ) → k < n → test (a + k) ≡ true) → every_byte n test a ≡ true
+unfolding every_byte
+every_passes zero test a h = refl
+every_passes (suc n) test a h =
     let start : test a ≡ true = ap test (omega arith) ∙ h zero (omega arith) in
-    rw (start, everyByte) (every-passes n test (a + 1) (λ k l. ap test (omega arith) ∙ h (suc k) (omega arith)))
+    rw (start, every_byte) (every_passes n test (a + 1) (λ k l. ap test (omega arith) ∙ h (suc k) (omega arith)))
 
 module _ (t : List ℕ) (color : ℕ) where
-  pub outside : (a : ℕ) → memorySize ≤ a → hasColor t color a ≡ false
-  outside a h = rw (le-ltb a memorySize h, hasColor) refl
+  pub outside : (a : ℕ) → memory_size ≤ a → has_color t color a ≡ false
+  outside a h = rw (le-ltb a memory_size h, has_color) refl
 
-  pub inside-slot : (a : ℕ) → a < memorySize → hasColor t color a ≡ eqb (colorAt t a) color
-  inside-slot a h = rw (lt-ltb a memorySize h, hasColor) refl
+  pub inside_slot : (a : ℕ) → a < memory_size → has_color t color a ≡ eqb (color_at t a) color
+  inside_slot a h = rw (lt-ltb a memory_size h, has_color) refl
 
   -- CHECK8
-  pub check-1 : (a : ℕ) → everyByte 1 (hasColor t color) a ≡ hasColor t color a
-  unfolding everyByte
-  check-1 a = go (hasColor t color a) refl
+  pub check_1 : (a : ℕ) → every_byte 1 (has_color t color) a ≡ has_color t color a
+  unfolding every_byte
+  check_1 a = go (has_color t color a) refl
     where
-      go : (b : Bool) → hasColor t color a ≡ b → everyByte 1 (hasColor t color) a ≡ hasColor t color a
-      go true e = rw (e, everyByte) refl
-      go false e = rw (e, everyByte) refl
+      go : (b : Bool) → has_color t color a ≡ b → every_byte 1 (has_color t color) a ≡ has_color t color a
+      go true e = rw (e, every_byte) refl
+      go false e = rw (e, every_byte) refl
 
-  pub check-1-inside : (a found : ℕ) → a < memorySize → found ≡ colorAt t a → eqb found color ≡ everyByte 1 (hasColor t color) a
-  check-1-inside a found h e = ap (λ x. eqb x color) e ∙ sym (check-1 a ∙ inside-slot a h)
+  pub check_1_inside : (a found : ℕ) → a < memory_size → found ≡ color_at t a → eqb found color ≡ every_byte 1 (has_color t color) a
+  check_1_inside a found h e = ap (λ x. eqb x color) e ∙ sym (check_1 a ∙ inside_slot a h)
 
-  pub check-1-outside : (a : ℕ) → memorySize ≤ a → false ≡ everyByte 1 (hasColor t color) a
-  check-1-outside a h = sym (check-1 a ∙ outside a h)
+  pub check_1_outside : (a : ℕ) → memory_size ≤ a → false ≡ every_byte 1 (has_color t color) a
+  check_1_outside a h = sym (check_1 a ∙ outside a h)
 
   -- CHECK32
-  pub check-4-outside : (a : ℕ) → memorySize ≤ a + 3 → false ≡ everyByte 4 (hasColor t color) a
-  check-4-outside a h = sym (every-fails 4 (hasColor t color) a 3 (omega arith) (outside (a + 3) h))
+  pub check_4_outside : (a : ℕ) → memory_size ≤ a + 3 → false ≡ every_byte 4 (has_color t color) a
+  check_4_outside a h = sym (every_fails 4 (has_color t color) a 3 (omega arith) (outside (a + 3) h))
 
-  pub check-4-first : (a found : ℕ) → a + 3 < memorySize → found ≡ colorAt t a → (found ≡ color → ⊥) → false ≡ everyByte 4
-      (hasColor t color) a
-  check-4-first a found h e differs =
+  pub check_4_first : (a found : ℕ) → a + 3 < memory_size → found ≡ color_at t a → (found ≡ color → ⊥) → false ≡ every_byte 4
+      (has_color t color) a
+  check_4_first a found h e differs =
       let start : a + 0 ≡ a = omega arith in
       sym
-      (every-fails 4 (hasColor t color) a 0 (omega arith)
-      (ap (hasColor t color) start ∙ inside-slot a (omega arith) ∙ ne_eqb (colorAt t a) color (λ q. differs (e ∙ q))))
+      (every_fails 4 (has_color t color) a 0 (omega arith)
+      (ap (has_color t color) start ∙ inside_slot a (omega arith) ∙ ne_eqb (color_at t a) color (λ q. differs (e ∙ q))))
 
-  same-slot : (a b : ℕ) → slot a ≡ slot b → colorAt t a ≡ colorAt t b
-  unfolding colorAt
-  same-slot a b e = ap (λ s. get_or t s 0) e
+  same_slot : (a b : ℕ) → slot a ≡ slot b → color_at t a ≡ color_at t b
+  unfolding color_at
+  same_slot a b e = ap (λ s. get_or t s 0) e
 
   -- the slot of a byte between is that of the first or that of the last
-  between : (a k : ℕ) → k < 4 → colorAt t a ≡ color → colorAt t (a + 3) ≡ color → colorAt t (a + k) ≡ color
+  between : (a k : ℕ) → k < 4 → color_at t a ≡ color → color_at t (a + 3) ≡ color → color_at t (a + k) ≡ color
   between a k h first last = go (eqb (slot (a + k)) (slot a)) refl
     where
-      go : (b : Bool) → eqb (slot (a + k)) (slot a) ≡ b → colorAt t (a + k) ≡ color
-      go true e = same-slot (a + k) a (eqb-true _ _ e) ∙ first
+      go : (b : Bool) → eqb (slot (a + k)) (slot a) ≡ b → color_at t (a + k) ≡ color
+      go true e = same_slot (a + k) a (eqb-true _ _ e) ∙ first
       go false e =
           let differ : (slot (a + k) ≡ slot a → ⊥) = eqb-false _ _ e in
-          same-slot (a + k) (a + 3) (omega arith) ∙ last
+          same_slot (a + k) (a + 3) (omega arith) ∙ last
 
-  pub check-4-last : (a found last : ℕ) → a + 3 < memorySize → found ≡ colorAt t a → found ≡ color → last ≡ colorAt t (a + 3)
-      → eqb last color ≡ everyByte 4 (hasColor t color) a
-  check-4-last a found last h e first e3 = go (eqb (colorAt t (a + 3)) color) refl
+  pub check_4_last : (a found last : ℕ) → a + 3 < memory_size → found ≡ color_at t a → found ≡ color → last ≡ color_at t (a + 3)
+      → eqb last color ≡ every_byte 4 (has_color t color) a
+  check_4_last a found last h e first e3 = go (eqb (color_at t (a + 3)) color) refl
     where
-      go : (b : Bool) → eqb (colorAt t (a + 3)) color ≡ b → eqb last color ≡ everyByte 4 (hasColor t color) a
+      go : (b : Bool) → eqb (color_at t (a + 3)) color ≡ b → eqb last color ≡ every_byte 4 (has_color t color) a
       go true q =
           ap (λ x. eqb x color) e3 ∙ q
           ∙ sym
-          (every-passes 4 (hasColor t color) a
-          (λ k l. inside-slot (a + k) (omega arith) ∙ eq-eqb (colorAt t (a + k)) color (between a k l (sym e ∙ first) (eqb-true _ _ q))))
+          (every_passes 4 (has_color t color) a
+          (λ k l. inside_slot (a + k) (omega arith) ∙ eq-eqb (color_at t (a + k)) color (between a k l (sym e ∙ first) (eqb-true _ _ q))))
       go false q =
-          ap (λ x. eqb x color) e3 ∙ q ∙ sym (every-fails 4 (hasColor t color) a 3 (omega arith) (inside-slot (a + 3) h ∙ q))
+          ap (λ x. eqb x color) e3 ∙ q ∙ sym (every_fails 4 (has_color t color) a 3 (omega arith) (inside_slot (a + 3) h ∙ q))
 
 -- a lookup past the table's end
-pub past-table : (t : List ℕ) (a : ℕ) → length t ≤ slot a → 0 ≡ colorAt t a
-unfolding colorAt
-past-table t a h = sym (get_or-eq_default t 0 h)
+pub past_table : (t : List ℕ) (a : ℕ) → length t ≤ slot a → 0 ≡ color_at t a
+unfolding color_at
+past_table t a h = sym (get_or-eq_default t 0 h)
 
 -- ---- painting any table
 
 module _ (t : List ℕ) (a n color : ℕ) where
-  pub painted-inside : (after : List ℕ) → slot a + slot n ≤ length t → after ≡ paint t a n color → after ≡ painted t a n color
-  painted-inside after h e = rw (le-leb (slot a + slot n) (length t) h, painted) e
+  pub painted_inside : (after : List ℕ) → slot a + slot n ≤ length t → after ≡ paint t a n color → after ≡ painted t a n color
+  painted_inside after h e = rw (le-leb (slot a + slot n) (length t) h, painted) e
 
-  pub painted-outside : length t < slot a + slot n → t ≡ painted t a n color
-  painted-outside h = rw (lt-leb (slot a + slot n) (length t) h, painted) refl
+  pub painted_outside : length t < slot a + slot n → t ≡ painted t a n color
+  painted_outside h = rw (lt-leb (slot a + slot n) (length t) h, painted) refl

@@ -6,20 +6,20 @@ use Rattle.memory.specs.declared.Load.{Load}
 use Rattle.memory.specs.Memory.{slot, bytes_of, number_at, put, paint}
 
 -- "34 read outside memory", or the value that was read
-abbrev pub loadFor : (number value : ℕ) → Load
-loadFor number value = elim (eqb number 34) [ true ↦ Load.Outside | false ↦ Load.Value value ]
+abbrev pub load_for : (number value : ℕ) → Load
+load_for number value = elim (eqb number 34) [ true ↦ Load.Outside | false ↦ Load.Value value ]
 
 -- n bytes from an address on lie inside lent memory; at 57,344 bytes this is `inside`
 abbrev pub within : (n : ℕ) → List ℕ → (address : ℕ) → Bool
 within n m address = leb (address + n) (length m)
 
 -- the number that stands in n bytes from an address on, 0 where one of them lies outside
-abbrev pub numberWithin : (n : ℕ) → List ℕ → (address : ℕ) → ℕ
-numberWithin n m address = elim (within n m address) [ true ↦ number_at n m address | false ↦ 0 ]
+abbrev pub number_within : (n : ℕ) → List ℕ → (address : ℕ) → ℕ
+number_within n m address = elim (within n m address) [ true ↦ number_at n m address | false ↦ 0 ]
 
 -- "read at address a, low byte first"
 abbrev pub loaded : (n : ℕ) → List ℕ → (address : ℕ) → Load
-loaded n m address = elim (within n m address) [ true ↦ loadFor 0 (number_at n m address) | false ↦ loadFor 34 0 ]
+loaded n m address = elim (within n m address) [ true ↦ load_for 0 (number_at n m address) | false ↦ load_for 34 0 ]
 
 -- "write the low 1 or 4 bytes"
 abbrev pub stored : (n : ℕ) → List ℕ → (address value : ℕ) → List ℕ

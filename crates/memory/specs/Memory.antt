@@ -3,15 +3,15 @@ use Rattle.std.specs.Prelude.{ℕ, zero, suc, ◌+◌, ◌*◌, ◌/◌, ◌%◌
 use Rattle.std.proofs.lemmas.List.Edits.{sets}
 
 -- "Memory is 57,344 bytes. The table has 7,168 bytes"
-abbrev pub memorySize : ℕ
-memorySize = 57344
+abbrev pub memory_size : ℕ
+memory_size = 57344
 
-abbrev pub tableSize : ℕ
-tableSize = 7168
+abbrev pub table_size : ℕ
+table_size = 7168
 
 -- "11 | memory or table not of its exact length": both are
 abbrev pub exact : (memory table : List ℕ) → Bool
-exact m t = elim (eqb (length m) memorySize) [ true ↦ eqb (length t) tableSize | false ↦ false ]
+exact m t = elim (eqb (length m) memory_size) [ true ↦ eqb (length t) table_size | false ↦ false ]
 
 -- the bytes of a number, "low byte first"
 unfoldable pub bytes_of : (count value : ℕ) → List ℕ
@@ -35,23 +35,23 @@ fill l from n value = take from l ++ replicate n value ++ drop (from + n) l
 abbrev pub slot : (address : ℕ) → ℕ
 slot address = address / 8
 
-unfoldable pub colorAt : (table : List ℕ) (address : ℕ) → ℕ
-colorAt table address = get_or table (slot address) 0
+unfoldable pub color_at : (table : List ℕ) (address : ℕ) → ℕ
+color_at table address = get_or table (slot address) 0
 
 -- "A check stops with 36 if a byte it covers lies at or above 57,344 or in a slot of another color"
-abbrev pub hasColor : (table : List ℕ) (color address : ℕ) → Bool
-hasColor table color address =
-    elim (ltb address memorySize) [ true ↦ eqb (colorAt table address) color | false ↦ false ]
+abbrev pub has_color : (table : List ℕ) (color address : ℕ) → Bool
+has_color table color address =
+    elim (ltb address memory_size) [ true ↦ eqb (color_at table address) color | false ↦ false ]
 
 -- the slots of n bytes from an address on get a color; both are multiples of eight
 abbrev pub paint : (table : List ℕ) (address n color : ℕ) → List ℕ
 paint table address n color = fill table (slot address) (slot n) color
 
 -- every byte of n from an address on passes a test; the first that fails decides
-unfoldable pub everyByte : (n : ℕ) → (ℕ → Bool) → (address : ℕ) → Bool
-everyByte zero test address = true
-everyByte (suc n) test address = elim (test address) [ true ↦ everyByte n test (address + 1) | false ↦ false ]
+unfoldable pub every_byte : (n : ℕ) → (ℕ → Bool) → (address : ℕ) → Bool
+every_byte zero test address = true
+every_byte (suc n) test address = elim (test address) [ true ↦ every_byte n test (address + 1) | false ↦ false ]
 
 -- n bytes from an address on lie inside memory; no byte lies outside where n is 0
 abbrev pub inside : (address n : ℕ) → Bool
-inside address n = elim (eqb n 0) [ true ↦ true | false ↦ leb (address + n) memorySize ]
+inside address n = elim (eqb n 0) [ true ↦ true | false ↦ leb (address + n) memory_size ]

@@ -1,7 +1,7 @@
 // Bytes of memory: one filling function, and numbers of one or four bytes, low byte first.
 ghost use Rattle.std.specs.Prelude.{◌≡◌, ◌+◌, ◌≤◌, ◌%◌, length, replicate};
 ghost use Rattle.memory.specs.Memory.{number_at, bytes_of, put};
-ghost use Rattle.memory.specs.Lent.{within, numberWithin, loaded, stored};
+ghost use Rattle.memory.specs.Lent.{within, number_within, loaded, stored};
 
 use crate::Load;
 
@@ -42,7 +42,7 @@ fn four_at(memory: &[u8], at: usize) -> u32
 
 // The number in the four bytes from an address on; 0 where one of them lies outside.
 pub fn number_at(memory: &[u8], address: u32) -> u32
-    ensures { result ≡ numberWithin 4 memory.now address }
+    ensures { result ≡ number_within 4 memory.now address }
 {
     let at = address as usize;
     if at + 4 <= memory.len() {

@@ -1,6 +1,6 @@
 // The color table: lookup by shift, what a check tests, and painting.
 ghost use Rattle.std.specs.Prelude.{◌≡◌, ◌+◌, ◌≤◌, length};
-ghost use Rattle.memory.specs.Memory.{slot, colorAt, hasColor, everyByte, paint};
+ghost use Rattle.memory.specs.Memory.{slot, color_at, has_color, every_byte, paint};
 ghost use Rattle.memory.specs.Lent.{painted};
 
 use crate::MEMORY;
@@ -8,7 +8,7 @@ use crate::bytes::fill;
 
 // The color of an address; a table that is too short has 0 there.
 fn color_at(table: &[u8], address: usize) -> u8
-    ensures { result ≡ colorAt table.now address }
+    ensures { result ≡ color_at table.now address }
 {
     let slot = address >> 3;
     if slot < table.len() { table[slot] } else { 0 }
@@ -16,7 +16,7 @@ fn color_at(table: &[u8], address: usize) -> u8
 
 // CHECK8: the byte lies in memory, in a slot of the color.
 pub fn check8(table: &[u8], address: u32, color: u8) -> bool
-    ensures { result ≡ everyByte 1 (hasColor table.now color) address }
+    ensures { result ≡ every_byte 1 (has_color table.now color) address }
 {
     let at = address as usize;
     if MEMORY <= at {
@@ -28,7 +28,7 @@ pub fn check8(table: &[u8], address: u32, color: u8) -> bool
 // CHECK32: each of four bytes lies in memory, in a slot of the color. They touch at most two slots,
 // so the first and the last byte decide. The last address is counted in 64 bits and cannot wrap.
 pub fn check32(table: &[u8], address: u32, color: u8) -> bool
-    ensures { result ≡ everyByte 4 (hasColor table.now color) address }
+    ensures { result ≡ every_byte 4 (has_color table.now color) address }
 {
     let at = address as usize;
     let last = at + 3;

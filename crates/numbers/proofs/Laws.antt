@@ -7,8 +7,8 @@ use native.Mathlib.Omega.{arith}
 use lib.ListN.{length, take, drop, length-drop, length-append, take-append-drop}
 use lib.Seq.{sets, sets-eq, drop-append-le, drop-append-add, drop-append_seam, take-append_seam, take_at, length-take-le}
 use borrow.Author.Tests.{le-leb, lt-leb}
-use Rattle.numbers.specs.Number.{spell, width, readGroups, readNumber}
-use Rattle.numbers.specs.Number.{fitsAt, writtenAt, roomAfter}
+use Rattle.numbers.specs.Number.{spell, width, read_groups, read_number}
+use Rattle.numbers.specs.Number.{fits_at, written_at, room_after}
 use Rattle.numbers.specs.declared.Cursor.{Cursor}
 use Rattle.numbers.specs.declared.Refusal.{Refusal}
 use Rattle.numbers.specs.declared.Read.{Read}
@@ -18,8 +18,8 @@ use Rattle.numbers.proofs.Reading.{start}
 use Rattle.numbers.proofs.Outcome.{Outcome, refused, number, outcome, reads}
 -- ---- the spelling: one byte below 128, else the low group with the top bit and the spelling of the rest; its
 -- elements are bytes, one to five of them
-pub use Rattle.numbers.proofs.Spelling.{spell_last, spell-more, spell-byte}
-pub use Rattle.numbers.proofs.Spelling.{width-last, width-more, width-least, width-most}
+pub use Rattle.numbers.proofs.Spelling.{spell_last, spell_more, spell_byte}
+pub use Rattle.numbers.proofs.Spelling.{width_last, width_more, width_least, width_most}
 
 -- ---- reading and spelling are one
 
@@ -30,8 +30,8 @@ pub record Spelled (file : List ℕ) (at n : ℕ) (c : Cursor) : Type 0 where
   pub small : n < 2 ^ 32
 
 module _ (file : List ℕ) (at : ℕ) {n : ℕ} {c : Cursor} where
-  pub spelled-of-read : readNumber file at ≡ Number n c → Spelled file at n c
-  spelled-of-read e = go (outcome 5 refl (start file at))
+  pub spelled_of_read : read_number file at ≡ Number n c → Spelled file at n c
+  spelled_of_read e = go (outcome 5 refl (start file at))
     where
       go : Outcome 5 file at at 0 0 → Spelled file at n c
       go (refused q this which) = let z : ◌≡◌ {A = ℕ} 0 1 = cc in absurd (omega arith)
@@ -42,8 +42,8 @@ module _ (file : List ℕ) (at : ℕ) {n : ℕ} {c : Cursor} where
           rw behind
           (record { stands = rw is at f.stands; ends = rw is at f.ends; small = rw value f.small })
 
-  pub read-of-spelled : Spelled file at n c → readNumber file at ≡ Number n c
-  read-of-spelled p =
+  pub read_of_spelled : Spelled file at n c → read_number file at ≡ Number n c
+  read_of_spelled p =
       reads 5 refl (start file at)
       (record {
         rest = n;
@@ -55,23 +55,23 @@ module _ (file : List ℕ) (at : ℕ) {n : ℕ} {c : Cursor} where
       })
 
   -- a number that is read ends behind its start, inside the file, and has 32 bits
-  pub read-bounds : readNumber file at ≡ Number n c
+  pub read_bounds : read_number file at ≡ Number n c
       → (at < c.at) × (c.at ≤ length file) × (n < 2 ^ 32) × (c.at ≡ at + width n)
-  read-bounds e =
-      let p = spelled-of-read e in
+  read_bounds e =
+      let p = spelled_of_read e in
       let lengths = simp (length-drop, length-append) at (ap length p.stands) in
       let ends = p.ends in
-      let least = width-least n in
+      let least = width_least n in
       (omega arith, omega arith, p.small, p.ends)
 
   -- what reads as a number is byte for byte what the writer writes for it
-  pub one-spelling : readNumber file at ≡ Number n c → take (width n) (drop at file) ≡ spell n
-  one-spelling e = ap (take (width n)) (spelled-of-read e).stands ∙ take-append_seam (spell n) (drop c.at file)
+  pub one_spelling : read_number file at ≡ Number n c → take (width n) (drop at file) ≡ spell n
+  one_spelling e = ap (take (width n)) (spelled_of_read e).stands ∙ take-append_seam (spell n) (drop c.at file)
 
 -- a refusal is one of 2 and 3, with 01's place
-pub refusal-is-2-or-3 : (file : List ℕ) (at : ℕ) {q : Refusal} → readNumber file at ≡ Refused q
+pub refusal_is_2_or_3 : (file : List ℕ) (at : ℕ) {q : Refusal} → read_number file at ≡ Refused q
     → (q ≡ record { number = 2; place = length file }) ⊎ (q ≡ record { number = 3; place = at })
-refusal-is-2-or-3 file at {q} e = go (outcome 5 refl (start file at))
+refusal_is_2_or_3 file at {q} e = go (outcome 5 refl (start file at))
   where
     go : Outcome 5 file at at 0 0
         → (q ≡ record { number = 2; place = length file }) ⊎ (q ≡ record { number = 3; place = at })
@@ -79,10 +79,10 @@ refusal-is-2-or-3 file at {q} e = go (outcome 5 refl (start file at))
     go (number n c this f) = let z : ◌≡◌ {A = ℕ} 0 1 = cc in absurd (omega arith)
 
 -- what is written reads back, whatever stands around it
-pub reads-back : (before after : List ℕ) (n : ℕ) → n < 2 ^ 32
-    → readNumber (before ++ spell n ++ after) (length before) ≡ Number n (record { at = length before + width n })
-reads-back before after n h =
-    read-of-spelled (before ++ spell n ++ after) (length before)
+pub reads_back : (before after : List ℕ) (n : ℕ) → n < 2 ^ 32
+    → read_number (before ++ spell n ++ after) (length before) ≡ Number n (record { at = length before + width n })
+reads_back before after n h =
+    read_of_spelled (before ++ spell n ++ after) (length before)
     (record {
       stands = rw (append_assoc, drop-append_seam, drop-append-add, drop-append_seam);
       ends = refl;
@@ -95,16 +95,16 @@ cut l at c h b =
     ap (drop at) (sym (take-append-drop c l)) ∙ drop-append-le at (take c l) (drop c l) (rw (length-take-le c l b) h)
 
 -- reading never looks past its number
-pub read-prefix : (file other : List ℕ) (at : ℕ) {n : ℕ} {c : Cursor} → take c.at file ≡ take c.at other
-    → c.at ≤ length other → readNumber file at ≡ Number n c → readNumber other at ≡ Number n c
-read-prefix file other at {n} {c} agree within e =
-    let (behind, inside, small, ends) = read-bounds file at e in
+pub read_prefix : (file other : List ℕ) (at : ℕ) {n : ℕ} {c : Cursor} → take c.at file ≡ take c.at other
+    → c.at ≤ length other → read_number file at ≡ Number n c → read_number other at ≡ Number n c
+read_prefix file other at {n} {c} agree within e =
+    let (behind, inside, small, ends) = read_bounds file at e in
     let part : List ℕ = drop at (take c.at file) in
     let long : length part ≡ width n = rw (length-drop, length-take-le c.at file inside) (omega arith) in
     let spelled : part ≡ spell n =
     sym (take_at part (drop c.at file) (width n) long)
-    ∙ ap (take (width n)) (sym (cut file at c.at (omega arith) inside)) ∙ one-spelling file at e in
-    read-of-spelled other at
+    ∙ ap (take (width n)) (sym (cut file at c.at (omega arith) inside)) ∙ one_spelling file at e in
+    read_of_spelled other at
     (record {
       stands = cut other at c.at (omega arith) within ∙ rw (← agree, spelled);
       ends = ends;
@@ -115,16 +115,16 @@ read-prefix file other at {n} {c} agree within e =
 
 module _ (room : List ℕ) (at n : ℕ) where
   pub written : at + width n ≤ length room
-      → (writtenAt room at n ≡ Upto (at + width n)) × (roomAfter room at n ≡ sets room at (spell n))
-  written h = (simp (le-leb _ _ h, fitsAt, writtenAt), simp (le-leb _ _ h, fitsAt, roomAfter))
+      → (written_at room at n ≡ Upto (at + width n)) × (room_after room at n ≡ sets room at (spell n))
+  written h = (simp (le-leb _ _ h, fits_at, written_at), simp (le-leb _ _ h, fits_at, room_after))
 
-  pub not_written : length room < at + width n → (writtenAt room at n ≡ TooSmall) × (roomAfter room at n ≡ room)
-  not_written h = (simp (lt-leb _ _ h, fitsAt, writtenAt), simp (lt-leb _ _ h, fitsAt, roomAfter))
+  pub not_written : length room < at + width n → (written_at room at n ≡ TooSmall) × (room_after room at n ≡ room)
+  not_written h = (simp (lt-leb _ _ h, fits_at, written_at), simp (lt-leb _ _ h, fits_at, room_after))
 
   -- the writer's room reads back
-  pub reads-written : at + width n ≤ length room → n < 2 ^ 32
-      → readNumber (roomAfter room at n) at ≡ Number n (record { at = at + width n })
-  reads-written h b =
+  pub reads_written : at + width n ≤ length room → n < 2 ^ 32
+      → read_number (room_after room at n) at ≡ Number n (record { at = at + width n })
+  reads_written h b =
       let placed : length (take at room) ≡ at = length-take-le at room (omega arith) in
       rw ((written h).1, sets-eq (spell n) room at h)
-      (rw placed at (reads-back (take at room) (drop (at + width n) room) n b))
+      (rw placed at (reads_back (take at room) (drop (at + width n) room) n b))

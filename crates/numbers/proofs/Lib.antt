@@ -6,11 +6,11 @@
 -- read answers, and what is left to write leaves, what the whole does.
 --
 -- For the crates above, in `Laws`:
---   what is written reads back, whatever stands around it            `reads-back`, `reads-written`
---   what reads as a number is what is written for it, byte for byte  `one-spelling`
---   a number that is read ends inside the file, behind its start     `read-bounds`
---   reading never looks past its number                              `read-prefix`
---   a refusal is 2 or 3, with 01's place                             `refusal-is-2-or-3`
+--   what is written reads back, whatever stands around it            `reads_back`, `reads_written`
+--   what reads as a number is what is written for it, byte for byte  `one_spelling`
+--   a number that is read ends inside the file, behind its start     `read_bounds`
+--   reading never looks past its number                              `read_prefix`
+--   a refusal is 2 or 3, with 01's place                             `refusal_is_2_or_3`
 --
 -- The first four are one equivalence, by induction on the groups (`Outcome`): a number is read where, and only
 -- where, its spelling stands.

@@ -11,13 +11,13 @@ use native.Mathlib.Decide.{dec_lt, dec_le}
 use native.Mathlib.Omega.{arith}
 use lib.ListN.{length, get_or, drop, length-drop}
 use lib.Seq.{drop-cons}
-use Rattle.numbers.specs.Number.{groups, largest, readNumber}
+use Rattle.numbers.specs.Number.{groups, largest, read_number}
 use Rattle.numbers.specs.declared.Cursor.{Cursor}
 use Rattle.numbers.specs.declared.Refusal.{Refusal}
 use Rattle.numbers.specs.declared.Read.TheVariants.{Number, Refused}
-use Rattle.numbers.proofs.Spelling.{groups-last, groups-more, groups-join}
+use Rattle.numbers.proofs.Spelling.{groups_last, groups_more, groups_join}
 use Rattle.numbers.proofs.Reading.{Reading, end, early, over, more, long, last}
-use Rattle.numbers.proofs.Reading.{joined, next_power, fits, fifth-most, may-stand, largest-most, short, short-or-long}
+use Rattle.numbers.proofs.Reading.{joined, next_power, fits, fifth_most, may_stand, largest_most, short, short_or_long}
 
 -- from `at` on stand the groups of `rest`, which with the value of the i groups before make n; c is behind them
 pub record Found (left : ℕ) (file : List ℕ) (at value i n : ℕ) (c : Cursor) : Type 0 where
@@ -29,10 +29,10 @@ pub record Found (left : ℕ) (file : List ℕ) (at value i n : ℕ) (c : Cursor
   pub small : n < 2 ^ 32
 
 pub data Outcome (left : ℕ) (file : List ℕ) (first at value i : ℕ) : Type 0 where
-  refused : (q : Refusal) → Refused q ≡ readNumber file first
+  refused : (q : Refusal) → Refused q ≡ read_number file first
       → (q ≡ record { number = 2; place = length file }) ⊎ (q ≡ record { number = 3; place = first })
       → Outcome left file first at value i
-  number : (n : ℕ) (c : Cursor) → Number n c ≡ readNumber file first → Found left file at value i n c
+  number : (n : ℕ) (c : Cursor) → Number n c ≡ read_number file first → Found left file at value i n c
       → Outcome left file first at value i
 
 -- ---- from the reading to the spelling
@@ -46,25 +46,25 @@ here file at h = rw (add-one, drop-cons file at 0)
 
 module _ {file : List ℕ} {at value i : ℕ} (inside : at < length file) where
   -- the last group
-  found-last : (left : ℕ) → i < 5 → value < 2 ^ (7 * i) → get_or file at 0 ≤ largest i → get_or file at 0 < 128
+  found_last : (left : ℕ) → i < 5 → value < 2 ^ (7 * i) → get_or file at 0 ≤ largest i → get_or file at 0 < 128
       → (get_or file at 0 ≡ 0 → i ≡ 0)
       → Found (suc left) file at value i (joined value (get_or file at 0) i) (record { at = at + 1 })
-  found-last left limit v allowed final only =
+  found_last left limit v allowed final only =
       record {
         rest = get_or file at 0;
         sum = refl;
         shortly = only;
-        stands = here file at inside ∙ rw (groups-last left _ final);
-        ends = rw (groups-last left _ final);
-        small = fits i limit v final (fifth-most i allowed);
+        stands = here file at inside ∙ rw (groups_last left _ final);
+        ends = rw (groups_last left _ final);
+        small = fits i limit v final (fifth_most i allowed);
       }
 
   -- one group more in front of what is found
-  found-more : (left : ℕ) {n : ℕ} {c : Cursor} → get_or file at 0 ≤ largest i → 128 ≤ get_or file at 0
+  found_more : (left : ℕ) {n : ℕ} {c : Cursor} → get_or file at 0 ≤ largest i → 128 ≤ get_or file at 0
       → Found left file (at + 1) (joined value (get_or file at 0 % 128) i) (i + 1) n c → Found (suc left) file at value i n c
-  found-more left allowed t f =
+  found_more left allowed t f =
       let above : 0 < f.rest = positive (i + 1) f.rest (omega arith) f.shortly in
-      let spelled = groups-join left (get_or file at 0) f.rest t (omega (arith, largest-most i)) above in
+      let spelled = groups_join left (get_or file at 0) f.rest t (omega (arith, largest_most i)) above in
       record {
         rest = get_or file at 0 % 128 + f.rest * 128;
         sum = omega (arith, rw (next_power i) at f.sum);
@@ -78,7 +78,7 @@ module _ {file : List ℕ} {at value i : ℕ} (inside : at < length file) where
       → Outcome left file first (at + 1) (joined value (get_or file at 0 % 128) i) (i + 1)
       → Outcome (suc left) file first at value i
   also allowed t (refused q e which) = refused q e which
-  also {left = left} allowed t (number n c e f) = number n c e (found-more left allowed t f)
+  also {left = left} allowed t (number n c e f) = number n c e (found_more left allowed t f)
 
 pub outcome : (left : ℕ) {file : List ℕ} {first at value i : ℕ} → i + left ≡ 5 → Reading file first at value i
     → Outcome left file first at value i
@@ -96,10 +96,10 @@ outcome (suc left) {file} {first} {at} {value} {i} l r =
                       let t : 128 ≤ get_or file at 0 = omega arith in
                       also inside allowed t (outcome left (omega arith) (more r limit inside allowed t))
                   | yes final ↦
-                      elim (short-or-long i (get_or file at 0)) [
+                      elim (short_or_long i (get_or file at 0)) [
                         | inl only ↦
                             number _ _ (last r limit inside allowed final (short i _ only))
-                            (found-last inside left limit r.small allowed final only)
+                            (found_last inside left limit r.small allowed final only)
                         | inr t ↦ refused _ (long r limit inside allowed final t) (inr refl)
                       ]
                 ]
@@ -117,7 +117,7 @@ front s at b t e =
     (inside, cc, cc)
 
 pub reads : (left : ℕ) {file : List ℕ} {first at value i n : ℕ} {c : Cursor} → i + left ≡ 5
-    → Reading file first at value i → Found left file at value i n c → readNumber file first ≡ Number n c
+    → Reading file first at value i → Found left file at value i n c → read_number file first ≡ Number n c
 reads zero {value = value} {i = i} {n = n} l r f =
     let five : i ≡ 5 = omega arith in
     let s : n ≡ joined value f.rest 5 = rw five at f.sum in
@@ -126,14 +126,14 @@ reads (suc left) {file} {first} {at} {value} {i} {n} {c} l r f =
     let limit : i < 5 = omega arith in
     elim (dec_lt f.rest 128) [
       | yes t ↦
-          let (inside, is, behind) = front file at f.rest _ (rw (groups-last left _ t) at f.stands) in
-          let ends : c.at ≡ at + 1 = rw (groups-last left _ t) at f.ends in
+          let (inside, is, behind) = front file at f.rest _ (rw (groups_last left _ t) at f.stands) in
+          let ends : c.at ≡ at + 1 = rw (groups_last left _ t) at f.ends in
           let only : get_or file at 0 ≡ 0 → i ≡ 0 = λ z. f.shortly (sym is ∙ z) in
           sym (last r limit inside (allowed (omega arith) (λ h. omega arith)) (omega arith) (short i _ only))
           ∙ ap₂ (λ (v a : ℕ). Number v (record { at = a })) (rw is (sym f.sum)) (sym ends)
       | no t ↦
           let t' : 128 ≤ f.rest = omega arith in
-          let (inside, is, behind) = front file at _ _ (rw (groups-more left _ t') at f.stands) in
+          let (inside, is, behind) = front file at _ _ (rw (groups_more left _ t') at f.stands) in
           let low : get_or file at 0 % 128 ≡ f.rest % 128 = omega arith in
           let split = ap (λ (x : ℕ). x * 2 ^ (7 * i)) (div-add-mod' f.rest 128) in
           reads left (omega arith) (more r limit inside (allowed (omega arith) (λ h. omega arith)) (omega arith))
@@ -142,7 +142,7 @@ reads (suc left) {file} {first} {at} {value} {i} {n} {c} l r f =
             sum = rw (low, next_power i) (omega (arith, f.sum, split));
             shortly = λ z. absurd (omega arith);
             stands = behind;
-            ends = omega (arith, rw (groups-more left _ t') at f.ends);
+            ends = omega (arith, rw (groups_more left _ t') at f.ends);
             small = f.small;
           })
     ]
@@ -150,7 +150,7 @@ reads (suc left) {file} {first} {at} {value} {i} {n} {c} l r f =
     -- a fifth group has four bits
     allowed : get_or file at 0 ≤ 255 → (f.rest ≤ 15 → get_or file at 0 ≤ 15) → get_or file at 0 ≤ largest i
     allowed b h =
-        may-stand i (omega arith) b
+        may_stand i (omega arith) b
         (λ four.
         let s : n ≡ joined value f.rest 4 = rw four at f.sum in
         h (omega (arith, f.small)))

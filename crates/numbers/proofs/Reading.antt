@@ -12,7 +12,7 @@ use lib.ListN.{length, get_or}
 use lib.Pow.{pow-add, pow_mono}
 use lib.Bits.{bit_and, and_mask}
 use borrow.Author.Tests.{lt-ltb, le-ltb, le-leb, lt-leb, eq-eqb, ne_eqb}
-use Rattle.numbers.specs.Number.{readGroups, readNumber, endsEarly, badNumber, largest, shortest}
+use Rattle.numbers.specs.Number.{read_groups, read_number, ends_early, bad_number, largest, shortest}
 use Rattle.numbers.specs.declared.Read.TheVariants.{Number}
 
 -- ---- the arithmetic of groups
@@ -56,23 +56,23 @@ shifted i {value} byte l v fifth =
 -- ---- the two tests, as facts
 
 -- what holds of 255 before the fifth group, and of 15 there, holds of the largest byte
-by-largest : (P : ℕ → Type 0) (i : ℕ) → (i < 4 → P 255) → (4 ≤ i → P 15) → P (largest i)
-by-largest P i below fifth =
+by_largest : (P : ℕ → Type 0) (i : ℕ) → (i < 4 → P 255) → (4 ≤ i → P 15) → P (largest i)
+by_largest P i below fifth =
     elim (dec_lt i 4) [
       | yes h ↦ rw (lt-ltb i 4 h, largest) (below h)
       | no h ↦ let t : 4 ≤ i = omega arith in rw (le-ltb i 4 t, largest) (fifth t)
     ]
 
 -- a byte may stand as group i, if only a fifth is at most 15
-pub may-stand : (i : ℕ) {byte : ℕ} → i < 5 → byte ≤ 255 → (i ≡ 4 → byte ≤ 15) → byte ≤ largest i
-may-stand i {byte} l b h = by-largest (λ most. byte ≤ most) i (λ _. b) (λ t. h (omega arith))
+pub may_stand : (i : ℕ) {byte : ℕ} → i < 5 → byte ≤ 255 → (i ≡ 4 → byte ≤ 15) → byte ≤ largest i
+may_stand i {byte} l b h = by_largest (λ most. byte ≤ most) i (λ _. b) (λ t. h (omega arith))
 
 -- and one that may stand as the fifth is
-pub fifth-most : (i : ℕ) {byte : ℕ} → byte ≤ largest i → i ≡ 4 → byte ≤ 15
-fifth-most i {byte} b e = rw (e, largest) at b
+pub fifth_most : (i : ℕ) {byte : ℕ} → byte ≤ largest i → i ≡ 4 → byte ≤ 15
+fifth_most i {byte} b e = rw (e, largest) at b
 
-pub largest-most : (i : ℕ) → largest i ≤ 255
-largest-most i = by-largest (λ most. most ≤ 255) i (λ h. omega arith) (λ h. omega arith)
+pub largest_most : (i : ℕ) → largest i ≤ 255
+largest_most i = by_largest (λ most. most ≤ 255) i (λ h. omega arith) (λ h. omega arith)
 
 -- a last group of 0 is the only one
 pub short : (i byte : ℕ) → (byte ≡ 0 → i ≡ 0) → shortest i byte ≡ true
@@ -88,8 +88,8 @@ not_short i byte e t =
     let other : i ≡ 0 → ⊥ = λ z. omega arith in
     simp (eq-eqb byte 0 e, ne_eqb i 0 other, shortest)
 
-pub short-or-long : (i byte : ℕ) → (byte ≡ 0 → i ≡ 0) ⊎ (shortest i byte ≡ false)
-short-or-long i byte =
+pub short_or_long : (i byte : ℕ) → (byte ≡ 0 → i ≡ 0) ⊎ (shortest i byte ≡ false)
+short_or_long i byte =
     elim (ℕ_discrete byte 0) [
       | no e ↦ inl (λ z. absurd (e z))
       | yes e ↦
@@ -105,65 +105,65 @@ short-or-long i byte =
 pub record Reading (file : List ℕ) (first at value i : ℕ) : Type 0 where
   pub place : at ≡ first + i
   pub small : value < 2 ^ (7 * i)
-  pub answer : readGroups (5 - i) file first i value ≡ readNumber file first
+  pub answer : read_groups (5 - i) file first i value ≡ read_number file first
 
 pub start : (file : List ℕ) (first : ℕ) → Reading file first first 0 0
 start file first = record { place = omega arith; small = omega arith; answer = refl }
 
 -- a turn is left
-turn-left : (i : ℕ) → i < 5 → 5 - i ≡ suc (5 - (i + 1))
-turn-left i h = omega arith
+turn_left : (i : ℕ) → i < 5 → 5 - i ≡ suc (5 - (i + 1))
+turn_left i h = omega arith
 
 module _ {file : List ℕ} {first at value i : ℕ} (r : Reading file first at value i) where
-  pub end : 5 ≤ i → badNumber first ≡ readNumber file first
-  unfolding readGroups
+  pub end : 5 ≤ i → bad_number first ≡ read_number file first
+  unfolding read_groups
   end h =
       let e : 5 - i ≡ 0 = omega arith in
       rw e at r.answer
 
   module _ (limit : i < 5) where
-    pub early : length file ≤ at → endsEarly file ≡ readNumber file first
-    unfolding readGroups
-    early t = simp (turn-left i limit, ← r.place, le-ltb _ _ t, readGroups) at r.answer
+    pub early : length file ≤ at → ends_early file ≡ read_number file first
+    unfolding read_groups
+    early t = simp (turn_left i limit, ← r.place, le-ltb _ _ t, read_groups) at r.answer
 
     module _ (inside : at < length file) where
-      pub over : largest i < get_or file at 0 → badNumber first ≡ readNumber file first
-      unfolding readGroups
-      over t = simp (turn-left i limit, ← r.place, lt-ltb _ _ inside, lt-leb _ _ t, readGroups) at r.answer
+      pub over : largest i < get_or file at 0 → bad_number first ≡ read_number file first
+      unfolding read_groups
+      over t = simp (turn_left i limit, ← r.place, lt-ltb _ _ inside, lt-leb _ _ t, read_groups) at r.answer
 
       module _ (allowed : get_or file at 0 ≤ largest i) where
         pub more : 128 ≤ get_or file at 0 → Reading file first (at + 1) (joined value (get_or file at 0 % 128) i) (i + 1)
-        unfolding readGroups
+        unfolding read_groups
         more t =
             record {
               place = omega (arith, r.place);
               small = grows i r.small (omega arith);
               answer =
-                  simp (turn-left i limit, ← r.place, lt-ltb _ _ inside, le-leb _ _ allowed, le-ltb _ _ t, readGroups)
+                  simp (turn_left i limit, ← r.place, lt-ltb _ _ inside, le-leb _ _ allowed, le-ltb _ _ t, read_groups)
                   at r.answer;
             }
 
         module _ (final : get_or file at 0 < 128) where
-          pub long : shortest i (get_or file at 0) ≡ false → badNumber first ≡ readNumber file first
-          unfolding readGroups
+          pub long : shortest i (get_or file at 0) ≡ false → bad_number first ≡ read_number file first
+          unfolding read_groups
           long t =
-              simp (turn-left i limit, ← r.place, lt-ltb _ _ inside, le-leb _ _ allowed, lt-ltb _ _ final, t, readGroups)
+              simp (turn_left i limit, ← r.place, lt-ltb _ _ inside, le-leb _ _ allowed, lt-ltb _ _ final, t, read_groups)
               at r.answer
 
           pub last : shortest i (get_or file at 0) ≡ true
-              → Number (joined value (get_or file at 0) i) (record { at = at + 1 }) ≡ readNumber file first
-          unfolding readGroups
+              → Number (joined value (get_or file at 0) i) (record { at = at + 1 }) ≡ read_number file first
+          unfolding read_groups
           last t =
-              simp (turn-left i limit, ← r.place, lt-ltb _ _ inside, le-leb _ _ allowed, lt-ltb _ _ final, t, readGroups)
+              simp (turn_left i limit, ← r.place, lt-ltb _ _ inside, le-leb _ _ allowed, lt-ltb _ _ final, t, read_groups)
               at r.answer
 
       -- a byte that another follows: one group more, and behind a fifth what is left to read is refused
       pub followed : get_or file at 0 ≤ 255 → 128 ≤ get_or file at 0
           → Reading file first (at + 1) (joined value (get_or file at 0 % 128) i) (i + 1)
-      unfolding readGroups
+      unfolding read_groups
       followed b t =
           elim (dec_lt i 4) [
-            | yes h ↦ more (may-stand i limit b (λ e. absurd (omega arith))) t
+            | yes h ↦ more (may_stand i limit b (λ e. absurd (omega arith))) t
             | no h ↦
                 let four : i ≡ 4 = omega arith in
                 let none : 5 - (i + 1) ≡ 0 = omega arith in

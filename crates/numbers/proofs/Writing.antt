@@ -7,7 +7,7 @@ use native.Mathlib.Omega.{arith}
 use lib.ListN.{length, set, length-set}
 use lib.Seq.{sets}
 use Rattle.numbers.specs.Number.{spell, width}
-use Rattle.numbers.proofs.Spelling.{spell_last, spell-more, width-least, width-last, width-more}
+use Rattle.numbers.proofs.Spelling.{spell_last, spell_more, width_least, width_last, width_more}
 
 -- the rest of n is to be written from `place` on, and that will leave what writing n at `at` leaves
 pub record Writing (before : List ℕ) (at n : ℕ) (room : List ℕ) (rest place : ℕ) : Type 0 where
@@ -24,7 +24,7 @@ start room at n f h = record { fits = f; small = h; as_long = refl; ends = refl;
 module _ {before room : List ℕ} {at n rest place : ℕ} (w : Writing before at n room rest place) where
   -- the next byte has its room
   pub inside : place < length room
-  inside = omega (arith, w.fits, w.as_long, w.ends, width-least rest)
+  inside = omega (arith, w.fits, w.as_long, w.ends, width_least rest)
 
   pub more : 128 ≤ rest → Writing before at n (set room place (rest % 128 + 128)) (rest / 128) (place + 1)
   more t =
@@ -32,13 +32,13 @@ module _ {before room : List ℕ} {at n rest place : ℕ} (w : Writing before at
         fits = w.fits;
         small = omega (arith, w.small);
         as_long = length-set room place (rest % 128 + 128) ∙ w.as_long;
-        ends = omega (arith, w.ends, width-more rest t (omega (arith, w.small)));
-        leaves = rw add-one (rw (spell-more rest t (omega (arith, w.small))) at w.leaves);
+        ends = omega (arith, w.ends, width_more rest t (omega (arith, w.small)));
+        leaves = rw add-one (rw (spell_more rest t (omega (arith, w.small))) at w.leaves);
       }
 
   module _ (t : rest < 128) where
-    pub last-ends : place + 1 ≡ at + width n
-    last-ends = omega (arith, w.ends, width-last rest t)
+    pub last_ends : place + 1 ≡ at + width n
+    last_ends = omega (arith, w.ends, width_last rest t)
 
-    pub last-leaves : set room place rest ≡ sets before at (spell n)
-    last-leaves = rw (spell_last rest t) at w.leaves
+    pub last_leaves : set room place rest ≡ sets before at (spell n)
+    last_leaves = rw (spell_last rest t) at w.leaves

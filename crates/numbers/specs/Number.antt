@@ -23,12 +23,12 @@ abbrev pub width : ℕ → ℕ
 width n = length (spell n)
 
 -- "2 | file ends early | its length"
-abbrev pub endsEarly : List ℕ → Read
-endsEarly file = Refused (record { number = 2; place = length file })
+abbrev pub ends_early : List ℕ → Read
+ends_early file = Refused (record { number = 2; place = length file })
 
 -- "3 | number not shortest or above 32 bits | its first byte"
-abbrev pub badNumber : ℕ → Read
-badNumber first = Refused (record { number = 3; place = first })
+abbrev pub bad_number : ℕ → Read
+bad_number first = Refused (record { number = 3; place = first })
 
 -- the largest byte that may stand as group i: "a fifth byte above 15 is refused with 3 at once"
 abbrev pub largest : ℕ → ℕ
@@ -40,20 +40,20 @@ shortest i byte = elim (eqb byte 0) [ false ↦ true | true ↦ eqb i 0 ]
 
 -- The number that starts at `first`, read on from its group `i`, of which `left` may still come;
 -- the groups before hold `value`.
-unfoldable pub readGroups : (left : ℕ) → List ℕ → (first i value : ℕ) → Read
-readGroups zero file first i value = badNumber first
-readGroups (suc left) file first i value =
+unfoldable pub read_groups : (left : ℕ) → List ℕ → (first i value : ℕ) → Read
+read_groups zero file first i value = bad_number first
+read_groups (suc left) file first i value =
     elim (ltb (first + i) (length file)) [
-      | false ↦ endsEarly file
+      | false ↦ ends_early file
       | true ↦
           elim (leb (get_or file (first + i) 0) (largest i)) [
-            | false ↦ badNumber first
+            | false ↦ bad_number first
             | true ↦
                 elim (ltb (get_or file (first + i) 0) 128) [
-                  | false ↦ readGroups left file first (i + 1) (value + get_or file (first + i) 0 % 128 * 2 ^ (7 * i))
+                  | false ↦ read_groups left file first (i + 1) (value + get_or file (first + i) 0 % 128 * 2 ^ (7 * i))
                   | true ↦
                       elim (shortest i (get_or file (first + i) 0)) [
-                        | false ↦ badNumber first
+                        | false ↦ bad_number first
                         | true ↦ Number (value + get_or file (first + i) 0 * 2 ^ (7 * i)) (record { at = first + i + 1 })
                       ]
                 ]
@@ -61,22 +61,22 @@ readGroups (suc left) file first i value =
     ]
 
 -- what reading a number at a cursor answers, for any bytes and any cursor
-abbrev pub readNumber : List ℕ → ℕ → Read
-readNumber file at = readGroups 5 file at 0 0
+abbrev pub read_number : List ℕ → ℕ → Read
+read_number file at = read_groups 5 file at 0 0
 
 -- whether a number's spelling fits a room from a place on
-abbrev pub fitsAt : (room : List ℕ) (at n : ℕ) → Bool
-fitsAt room at n = leb (at + width n) (length room)
+abbrev pub fits_at : (room : List ℕ) (at n : ℕ) → Bool
+fits_at room at n = leb (at + width n) (length room)
 
 -- the answer by 01's number: "10 | room .. too small", or where the number ends
-abbrev pub writtenFor : (number end : ℕ) → Written
-writtenFor number end = elim (eqb number 10) [ true ↦ TooSmall | false ↦ Upto end ]
+abbrev pub written_for : (number end : ℕ) → Written
+written_for number end = elim (eqb number 10) [ true ↦ TooSmall | false ↦ Upto end ]
 
 -- what writing a number at a place of a room answers
-abbrev pub writtenAt : (room : List ℕ) (at n : ℕ) → Written
-writtenAt room at n = elim (fitsAt room at n) [ true ↦ writtenFor 0 (at + width n) | false ↦ writtenFor 10 0 ]
+abbrev pub written_at : (room : List ℕ) (at n : ℕ) → Written
+written_at room at n = elim (fits_at room at n) [ true ↦ written_for 0 (at + width n) | false ↦ written_for 10 0 ]
 
 -- the room afterwards: the spelling stands at the place and all else is as it was; what does not fit
 -- changes no byte
-abbrev pub roomAfter : (room : List ℕ) (at n : ℕ) → List ℕ
-roomAfter room at n = elim (fitsAt room at n) [ true ↦ sets room at (spell n) | false ↦ room ]
+abbrev pub room_after : (room : List ℕ) (at n : ℕ) → List ℕ
+room_after room at n = elim (fits_at room at n) [ true ↦ sets room at (spell n) | false ↦ room ]

@@ -4,7 +4,7 @@
 // written is the one shortest spelling. Nothing here asks anything of its caller.
 ghost use Rattle.std.specs.Prelude.{◌≡◌, ◌+◌, ◌/◌, ◌%◌, ◌<◌};
 ghost use Rattle.numbers.specs.declared.Read.TheVariants.{Refused};
-ghost use Rattle.numbers.specs.Number.{readNumber, width, writtenAt, roomAfter};
+ghost use Rattle.numbers.specs.Number.{read_number, width, written_at, room_after};
 
 // Where the next number of a file starts.
 #[derive(Drop)]
@@ -37,7 +37,7 @@ fn refused(number: u8, place: usize) -> Read
 // The number at a cursor, which may be any: past the end the file ends early. docs/FORMAT.md has the rules of a
 // number in the order of these lines.
 pub fn read_number(file: &[u8], from: Cursor) -> Read
-    ensures { result ≡ readNumber file.now from.at }
+    ensures { result ≡ read_number file.now from.at }
 {
     let first = from.at;
     let mut at = first;
@@ -114,8 +114,8 @@ pub fn number_width(n: u32) -> usize
 
 // Writes a number's spelling into a room from a place on, or nothing where it does not fit.
 pub fn write_number(room: &mut [u8], at: usize, n: u32) -> Written
-    ensures answer { result ≡ writtenAt room.old at n }
-    ensures room { room.new ≡ roomAfter room.old at n }
+    ensures answer { result ≡ written_at room.old at n }
+    ensures room { room.new ≡ room_after room.old at n }
 {
     let bytes = number_width(n);
     if room.len() < at || room.len() - at < bytes {

@@ -4,6 +4,6 @@ use mathlib.Core.List.{List, [], ◌∷◌}
 use Rattle.opcodes.specs.declared.Operand.{Operand}
 use Rattle.opcodes.specs.Table.{Each}
 
-pub each-then : {P Q : Operand → ℕ → Type 0} → ((kind : Operand) (n : ℕ) → P kind n → Q kind n) → (os : List (Operand × ℕ)) → Each P os → Each Q os
-each-then f [] e = tt
-each-then f (o ∷ os) e = (f o.0 o.1 e.0, each-then f os e.1)
+pub each_then : {P Q : Operand → ℕ → Type 0} → ((kind : Operand) (n : ℕ) → P kind n → Q kind n) → (os : List (Operand × ℕ)) → Each P os → Each Q os
+each_then f [] e = tt
+each_then f (o ∷ os) e = (f o.0 o.1 e.0, each_then f os e.1)

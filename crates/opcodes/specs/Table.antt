@@ -50,12 +50,12 @@ rows =
     ∷ row check Operand.Global Operand.Offset Operand.Color none
     ∷ []
 
-abbrev pub rowOf : ℕ → Row
-rowOf op = get_or rows op (row plain none none none none)
+abbrev pub row_of : ℕ → Row
+row_of op = get_or rows op (row plain none none none none)
 
 -- the operands of a row in the order of the file, none behind the last
-abbrev pub operandsOf : Row → List Operand
-operandsOf r = r.first ∷ r.second ∷ r.third ∷ r.fourth ∷ []
+abbrev pub operands_of : Row → List Operand
+operands_of r = r.first ∷ r.second ∷ r.third ∷ r.fourth ∷ []
 
 -- an instruction of its first operands
 abbrev of1 : (ℕ → Instr) → List ℕ → Instr
@@ -101,8 +101,8 @@ make op = get_or makers op (λ ns. End)
 abbrev pub parts_in : (op : ℕ) → List ℕ → Parts
 parts_in op ns = record { op = op; x = get_or ns 0 0; y = get_or ns 1 0; z = get_or ns 2 0; w = get_or ns 3 0 }
 
-abbrev pub numbersOf : Parts → List ℕ
-numbersOf p = p.x ∷ p.y ∷ p.z ∷ p.w ∷ []
+abbrev pub numbers_of : Parts → List ℕ
+numbers_of p = p.x ∷ p.y ∷ p.z ∷ p.w ∷ []
 
 -- an instruction taken apart
 abbrev pub parts_of : Instr → Parts
@@ -135,8 +135,8 @@ named [] ns = []
 named (kind ∷ kinds) [] = []
 named (kind ∷ kinds) (n ∷ ns) = (kind, n) ∷ named kinds ns
 
-abbrev pub operandsIn : Parts → List (Operand × ℕ)
-operandsIn p = named (operandsOf (rowOf p.op)) (numbersOf p)
+abbrev pub operands_in : Parts → List (Operand × ℕ)
+operands_in p = named (operands_of (row_of p.op)) (numbers_of p)
 
 -- what holds of each of them
 abbrev pub Each : (Operand → ℕ → Type 0) → List (Operand × ℕ) → Type 0

@@ -15,8 +15,8 @@ bytes four = 4
 
 -- where a store or a check points: "at byte k of global g", or "at address a", a temporary
 pub data Aim : Type 0 where
-  inGlobal : (g k : ℕ) → Width → Aim
-  atTemp : (a : ℕ) → Width → Aim
+  in_global : (g k : ℕ) → Width → Aim
+  at_temp : (a : ℕ) → Width → Aim
 
 -- what an instruction calculates from temporaries, memory, heap, input and output
 pub data Act : Type 0 where
@@ -35,7 +35,7 @@ pub data Act : Type 0 where
 pub data View : Type 0 where
   act : Act → View
   jump : (p : ℕ) → View
-  jumpIf : (a p : ℕ) → View
+  jump_if : (a p : ℕ) → View
   store : Aim → (source set : ℕ) → View
   check : Aim → (color : ℕ) → View
 
@@ -48,27 +48,27 @@ view (Sub d a b) = act (sub d a b)
 view (Less d a b) = act (less d a b)
 view (Load8 d a) = act (load d a one)
 view (Load32 d a) = act (load d a four)
-view (Put8 g k a) = store (inGlobal g k one) a 0
-view (Put32 g k a) = store (inGlobal g k four) a 0
-view (Write8 a b s) = store (atTemp a one) b s
-view (Write32 a b s) = store (atTemp a four) b s
+view (Put8 g k a) = store (in_global g k one) a 0
+view (Put32 g k a) = store (in_global g k four) a 0
+view (Write8 a b s) = store (at_temp a one) b s
+view (Write32 a b s) = store (at_temp a four) b s
 view (Jump p) = jump p
-view (JumpIf a p) = jumpIf a p
+view (JumpIf a p) = jump_if a p
 view (Alloc d g a) = act (alloc d g a)
 view (Free a) = act (free a)
 view (In d) = act (input d)
 view (Out a) = act (output a)
-view (Check8 a c) = check (atTemp a one) c
-view (Check32 a c) = check (atTemp a four) c
-view (CheckPut8 g k c) = check (inGlobal g k one) c
-view (CheckPut32 g k c) = check (inGlobal g k four) c
+view (Check8 a c) = check (at_temp a one) c
+view (Check32 a c) = check (at_temp a four) c
+view (CheckPut8 g k c) = check (in_global g k one) c
+view (CheckPut32 g k c) = check (in_global g k four) c
 
 -- the check of an aim for a color: opcodes 18 to 21
-abbrev pub checkInstr : Aim → (color : ℕ) → Instr
-checkInstr (inGlobal g k one) c = CheckPut8 g k c
-checkInstr (inGlobal g k four) c = CheckPut32 g k c
-checkInstr (atTemp a one) c = Check8 a c
-checkInstr (atTemp a four) c = Check32 a c
+abbrev pub check_instr : Aim → (color : ℕ) → Instr
+check_instr (in_global g k one) c = CheckPut8 g k c
+check_instr (in_global g k four) c = CheckPut32 g k c
+check_instr (at_temp a one) c = Check8 a c
+check_instr (at_temp a four) c = Check32 a c
 
 -- "each rounded up to eight (its extent)"
 abbrev pub extent : (size : ℕ) → ℕ

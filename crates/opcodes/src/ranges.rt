@@ -1,6 +1,6 @@
 // The ranges of operands.
 ghost use Rattle.std.specs.Prelude.{◌≡◌};
-ghost use Rattle.opcodes.specs.Ranges.{within, isColor, isKind, scopeOver, allowed};
+ghost use Rattle.opcodes.specs.Ranges.{within, is_color, is_kind, scope_over, allowed};
 
 use super::{Operand, Scope};
 
@@ -13,14 +13,14 @@ pub fn is_within(low: u32, high: u32, n: u32) -> bool
 
 // A color of an object: 1 is for heap headers.
 pub fn is_color(n: u32) -> bool
-    ensures { result ≡ isColor n }
+    ensures { result ≡ is_color n }
 {
     n == 0 || is_within(2, 255, n)
 }
 
 // Whether `g` names an object, and one of the kind stated.
 fn is_kind(kinds: &[u8], kind: u8, g: u32) -> bool
-    ensures { result ≡ isKind kinds.now kind g }
+    ensures { result ≡ is_kind kinds.now kind g }
 {
     let at = g as usize;
     at < kinds.len() && kinds[at] == kind
@@ -28,7 +28,7 @@ fn is_kind(kinds: &[u8], kind: u8, g: u32) -> bool
 
 // Whether a number is in the range of an operand.
 pub fn is_allowed(kinds: &[u8], scope: Scope, kind: Operand, n: u32) -> bool
-    ensures { result ≡ allowed (scopeOver scope kinds.now) kind n }
+    ensures { result ≡ allowed (scope_over scope kinds.now) kind n }
 {
     let at = n as usize;
     match kind {

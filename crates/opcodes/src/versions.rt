@@ -1,12 +1,12 @@
 // What a version has: opcodes by their groups, and operands.
 ghost use Rattle.std.specs.Prelude.{◌≡◌};
-ghost use Rattle.opcodes.specs.Ranges.{hasGroup, present};
+ghost use Rattle.opcodes.specs.Ranges.{has_group, present};
 
 use super::{Group, Operand};
 
 // Whether a version has the opcodes of a group: checks stand in version 2 only.
 pub fn has_group(version: u8, group: Group) -> bool
-    ensures { result ≡ hasGroup version group }
+    ensures { result ≡ has_group version group }
 {
     match group {
         Group::Plain => true,

@@ -11,48 +11,48 @@ use lib.Dec.{eqb}
 use borrow.Author.Tests.{ne_eqb, le-leb}
 use Rattle.opcodes.specs.declared.Instr.{Instr}
 use Rattle.files.specs.Program.{Program}
-use Rattle.opcodes.specs.View.{one, four, Aim, inGlobal, atTemp, store, view}
-use Rattle.safety.specs.Unsafe.{safeAim, setOf, Unsafe, unsafeSet, setsIn, unsafeSets}
-use Rattle.safety.proofs.Stores.{unsafe-one}
-use Rattle.coloring.specs.Class.{holds, some, unsafeObject}
-use Rattle.coloring.proofs.Members.{some-here, some-behind, holds_at}
-use Rattle.memory.specs.Memory.{memorySize, inside}
+use Rattle.opcodes.specs.View.{one, four, Aim, in_global, at_temp, store, view}
+use Rattle.safety.specs.Unsafe.{safe_aim, set_of, Unsafe, unsafe_set, sets_in, unsafe_sets}
+use Rattle.safety.proofs.Stores.{unsafe_one}
+use Rattle.coloring.specs.Class.{holds, some, unsafe_object}
+use Rattle.coloring.proofs.Members.{some_here, some_behind, holds_at}
+use Rattle.memory.specs.Memory.{memory_size, inside}
 use Rattle.machine.specs.State.{width_of}
 use Rattle.plain.proofs.Good.{Fine, Good}
 
 -- ---- sets
 
 -- the set of an unsafe instruction counts
-in-sets : (p : Program) (test : List ℕ → Bool) (s : List ℕ) (code : List Instr) (k : ℕ) → k < length code
-    → unsafeSet p (view (get_or code k Instr.End)) ≡ s ∷ [] → test s ≡ true → some test (setsIn p code) ≡ true
-unfolding setsIn
-in-sets p test s [] k h e t = absurd (not-suc-le-zero h)
-in-sets p test s (i ∷ code) zero h e t = ap (λ l. some test (l ++ setsIn p code)) e ∙ some-here test s (setsIn p code) t
-in-sets p test s (i ∷ code) (suc k) h e t =
-    some-behind test (unsafeSet p (view i)) (setsIn p code) (in-sets p test s code k (le_of_suc-le-suc h) e t)
+in_sets : (p : Program) (test : List ℕ → Bool) (s : List ℕ) (code : List Instr) (k : ℕ) → k < length code
+    → unsafe_set p (view (get_or code k Instr.End)) ≡ s ∷ [] → test s ≡ true → some test (sets_in p code) ≡ true
+unfolding sets_in
+in_sets p test s [] k h e t = absurd (not-suc-le-zero h)
+in_sets p test s (i ∷ code) zero h e t = ap (λ l. some test (l ++ sets_in p code)) e ∙ some_here test s (sets_in p code) t
+in_sets p test s (i ∷ code) (suc k) h e t =
+    some_behind test (unsafe_set p (view i)) (sets_in p code) (in_sets p test s code k (le_of_suc-le-suc h) e t)
 
 module _ (p : Program) (good : Good p) (k : ℕ) (in_code : k < length p.code) (aim : Aim) (b s : ℕ)
-    (is : view (get_or p.code k Instr.End) ≡ store aim b s) (unsafe : safeAim p aim ≡ false) where
-  not-empty : (aim : Aim) → Fine p (store aim b s) → 1 ≤ length (setOf p aim s)
-  not-empty (inGlobal g k w) f = omega arith
-  not-empty (atTemp a w) f = good.some s f
+    (is : view (get_or p.code k Instr.End) ≡ store aim b s) (unsafe : safe_aim p aim ≡ false) where
+  not_empty : (aim : Aim) → Fine p (store aim b s) → 1 ≤ length (set_of p aim s)
+  not_empty (in_global g k w) f = omega arith
+  not_empty (at_temp a w) f = good.some s f
 
-  pub class-unsafe : unsafeObject (unsafeSets p) (get_or (setOf p aim s) 0 0) ≡ true
-  class-unsafe =
-      let set : List ℕ = setOf p aim s in
-      let named : unsafeSet p (store aim b s) ≡ set ∷ [] = ap (map (λ (u : Unsafe). u.set)) (unsafe-one p aim b s unsafe) in
-      in-sets p (λ l. holds l (get_or set 0 0)) set p.code k in_code (ap (unsafeSet p) is ∙ named)
-      (holds_at set 0 (not-empty aim (subst (Fine p) is (good.fines k in_code))))
+  pub class_unsafe : unsafe_object (unsafe_sets p) (get_or (set_of p aim s) 0 0) ≡ true
+  class_unsafe =
+      let set : List ℕ = set_of p aim s in
+      let named : unsafe_set p (store aim b s) ≡ set ∷ [] = ap (map (λ (u : Unsafe). u.set)) (unsafe_one p aim b s unsafe) in
+      in_sets p (λ l. holds l (get_or set 0 0)) set p.code k in_code (ap (unsafe_set p) is ∙ named)
+      (holds_at set 0 (not_empty aim (subst (Fine p) is (good.fines k in_code))))
 
 -- ---- bytes
 
 pub some_bytes : (aim : Aim) → 1 ≤ width_of aim
-some_bytes (inGlobal g k one) = omega arith
-some_bytes (inGlobal g k four) = omega arith
-some_bytes (atTemp a one) = omega arith
-some_bytes (atTemp a four) = omega arith
+some_bytes (in_global g k one) = omega arith
+some_bytes (in_global g k four) = omega arith
+some_bytes (at_temp a one) = omega arith
+some_bytes (at_temp a four) = omega arith
 
-pub inside_is : (a n : ℕ) → 1 ≤ n → a + n ≤ memorySize → inside a n ≡ true
+pub inside_is : (a n : ℕ) → 1 ≤ n → a + n ≤ memory_size → inside a n ≡ true
 inside_is a n some fits =
     let e : eqb n 0 ≡ false = ne_eqb n 0 (λ q. omega arith) in
-    rw (e, inside) (le-leb (a + n) memorySize fits)
+    rw (e, inside) (le-leb (a + n) memory_size fits)

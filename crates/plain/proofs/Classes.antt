@@ -2,32 +2,32 @@
 use Prim.Native.Nat.{ℕ}
 use mathlib.Core.Path.{◌≡◌, sym, ◌∙◌, ap}
 use Rattle.files.specs.Program.{Program}
-use Rattle.files.specs.Reading.{readFile, whole}
+use Rattle.files.specs.Reading.{read_file, whole}
 use Rattle.files.proofs.RoundTrip as files
-use Rattle.coloring.specs.Class.{sameClass}
+use Rattle.coloring.specs.Class.{same_class}
 use Rattle.coloring.proofs.Chains as chains
 use Rattle.coloring.proofs.Colors as colors
 use Rattle.coloring.proofs.Order as order
-use Rattle.instrumenter.proofs.ReadsBack.{wrote, new-file-reads}
+use Rattle.instrumenter.proofs.ReadsBack.{wrote, new_file_reads}
 use Rattle.plain.specs.Demands.{ClassIsChain, ColoringIsLegal, NoneFiner, OneColoring, ReadsBack, FilesReadBack}
 
-pub class-is-chain : ClassIsChain
-class-is-chain = chains.class-is-chain
+pub class_is_chain : ClassIsChain
+class_is_chain = chains.class_is_chain
 
-pub coloring-is-legal : ColoringIsLegal
-coloring-is-legal = colors.coloring-is-legal
+pub coloring_is_legal : ColoringIsLegal
+coloring_is_legal = colors.coloring_is_legal
 
-pub none-finer : NoneFiner
-none-finer = colors.none-finer
+pub none_finer : NoneFiner
+none_finer = colors.none_finer
 
-pub one-coloring : OneColoring
-one-coloring sets = (order.colors-are-numbering sets, order.one-coloring sets)
+pub one_coloring : OneColoring
+one_coloring sets = (order.colors_are_numbering sets, order.one_coloring sets)
 
-pub reads-back : ReadsBack
-reads-back bytes out room e =
+pub reads_back : ReadsBack
+reads_back bytes out room e =
     let w = wrote bytes room out e in
-    (w.routine, w.read, w.accepted, ap (readFile 2) (sym w.spelled) ∙ new-file-reads w.routine w.accepted)
+    (w.routine, w.read, w.accepted, ap (read_file 2) (sym w.spelled) ∙ new_file_reads w.routine w.accepted)
 
-pub files-read-back : FilesReadBack
-files-read-back version small bytes p =
-    (files.one-spelling version bytes p, λ says. ap (readFile version) (sym says.bytes) ∙ files.reads-back version small p says.good)
+pub files_read_back : FilesReadBack
+files_read_back version small bytes p =
+    (files.one_spelling version bytes p, λ says. ap (read_file version) (sym says.bytes) ∙ files.reads_back version small p says.good)

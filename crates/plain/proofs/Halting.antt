@@ -12,21 +12,21 @@ use Rattle.stops.specs.Stop.{number_of}
 use Rattle.machine.specs.State.{Rule, Given, State}
 use Rattle.machine.specs.Step.{Next, stop, next, perform, step}
 use Rattle.machine.proofs.Turns.{Halt, Forth, forth}
-use Rattle.plain.specs.Demands.{stopNumbers}
+use Rattle.plain.specs.Demands.{stop_numbers}
 
-pub halt-listed : (x : Reason) → Halt x → holds stopNumbers (number_of x) ≡ true
+pub halt_listed : (x : Reason) → Halt x → holds stop_numbers (number_of x) ≡ true
 unfolding holds
-halt-listed Reason.Finished h = refl
-halt-listed Reason.PastEnd h = refl
-halt-listed Reason.LimitUsed h = refl
-halt-listed Reason.NoInput h = refl
-halt-listed Reason.NoRoom h = refl
-halt-listed Reason.ReadOutside h = refl
-halt-listed Reason.StoreOutside h = refl
-halt-listed Reason.Forbidden h = refl
-halt-listed Reason.BadFree h = refl
-halt-listed Reason.Unsound h = refl
-halt-listed (Reason.Refused q) h = absurd h
+halt_listed Reason.Finished h = refl
+halt_listed Reason.PastEnd h = refl
+halt_listed Reason.LimitUsed h = refl
+halt_listed Reason.NoInput h = refl
+halt_listed Reason.NoRoom h = refl
+halt_listed Reason.ReadOutside h = refl
+halt_listed Reason.StoreOutside h = refl
+halt_listed Reason.Forbidden h = refl
+halt_listed Reason.BadFree h = refl
+halt_listed Reason.Unsound h = refl
+halt_listed (Reason.Refused q) h = absurd h
 
 module _ {S : Type 0} (rule : Rule S) (given : Given) (s : State S) where
   abbrev Halts : Next S → Type 0
@@ -40,9 +40,9 @@ module _ {S : Type 0} (rule : Rule S) (given : Given) (s : State S) where
   here : Halts (perform rule given s (view (get_or rule.code s.at Instr.End)))
   here = halts (perform rule given s (view (get_or rule.code s.at Instr.End))) (forth rule given s (view (get_or rule.code s.at Instr.End)))
 
-  step-halts : Halts (step rule given s)
+  step_halts : Halts (step rule given s)
   unfolding step
-  step-halts = code (ltb s.at (length rule.code))
+  step_halts = code (ltb s.at (length rule.code))
     where
       limit : (b : Bool) → Halts (elim b [ false ↦ stop Reason.LimitUsed | true ↦ perform rule given s (view (get_or rule.code s.at Instr.End)) ])
       limit true = here
@@ -53,5 +53,5 @@ module _ {S : Type 0} (rule : Rule S) (given : Given) (s : State S) where
       code false = tt
 
   -- a state that stops does so for one of 01's stops
-  pub stops-listed : (x : Reason) → step rule given s ≡ stop x → holds stopNumbers (number_of x) ≡ true
-  stops-listed x e = halt-listed x (subst Halts e step-halts)
+  pub stops_listed : (x : Reason) → step rule given s ≡ stop x → holds stop_numbers (number_of x) ≡ true
+  stops_listed x e = halt_listed x (subst Halts e step_halts)

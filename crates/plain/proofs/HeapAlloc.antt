@@ -9,35 +9,35 @@ use lib.ListN.{length, get_or}
 use lib.Dec.{eqb, leb}
 use borrow.Author.Tests.{eqb-false, ne_eqb, leb-true}
 use Rattle.opcodes.specs.View.{extent}
-use Rattle.memory.specs.Memory.{memorySize, tableSize, colorAt, paint}
-use Rattle.heap.specs.Heap.{heapStart, endSlot, Block, body_of, isFree, putHeader, handOut, blocks, walk, Made, Alloc, takeBlock, firstFit, allocIn, alloc, paintMade}
-use Rattle.memory.proofs.Memory.{numberAt-same, length-paint, paint-outside, paint-inside}
-use Rattle.plain.proofs.HeapHeaders.{length-putHeader, putHeader-outside, header-size, header-mark, length-handOut, handOut-outside, handOut-size, handOut-mark}
-use Rattle.plain.proofs.HeapBlocks.{tint, Stands, Segment, Swap, segment-long, segment-whole, segment-append, segment-walk, segment-swaps}
+use Rattle.memory.specs.Memory.{memory_size, table_size, color_at, paint}
+use Rattle.heap.specs.Heap.{heap_start, end_slot, Block, body_of, is_free, put_header, hand_out, blocks, walk, Made, Alloc, take_block, first_fit, alloc_in, alloc, paint_made}
+use Rattle.memory.proofs.Memory.{number_at_same, length-paint, paint_outside, paint_inside}
+use Rattle.plain.proofs.HeapHeaders.{length-put_header, put_header_outside, header_size, header_mark, length-hand_out, hand_out_outside, hand_out_size, hand_out_mark}
+use Rattle.plain.proofs.HeapBlocks.{tint, Stands, Segment, Swap, segment_long, segment_whole, segment_append, segment_walk, segment_swaps}
 
 -- memory, table and the list of blocks of the whole heap
 pub record Tied (color : ℕ → ℕ) (m table : List ℕ) (bs : List Block) : Type 0 where
-  pub bytes : length m ≡ memorySize
-  pub slots : length table ≡ tableSize
-  pub segment : Segment color m table heapStart endSlot bs
-  pub last : (a : ℕ) → endSlot ≤ a → a < memorySize → colorAt table a ≡ 1
+  pub bytes : length m ≡ memory_size
+  pub slots : length table ≡ table_size
+  pub segment : Segment color m table heap_start end_slot bs
+  pub last : (a : ℕ) → end_slot ≤ a → a < memory_size → color_at table a ≡ 1
 
-pub tied-walk : (color : ℕ → ℕ) (m table : List ℕ) (bs : List Block) → Tied color m table bs → walk m ≡ blocks bs
-tied-walk color m table bs t =
-    segment-walk color m table 1792 bs heapStart t.segment
-    (omega (arith, segment-long color m table bs heapStart endSlot t.segment))
+pub tied_walk : (color : ℕ → ℕ) (m table : List ℕ) (bs : List Block) → Tied color m table bs → walk m ≡ blocks bs
+tied_walk color m table bs t =
+    segment_walk color m table 1792 bs heap_start t.segment
+    (omega (arith, segment_long color m table bs heap_start end_slot t.segment))
 
 -- every block of a list is free
 abbrev pub AllFree : List Block → Type 0
 AllFree [] = Unit {0}
-AllFree (b ∷ bs) = (isFree b ≡ true) × AllFree bs
+AllFree (b ∷ bs) = (is_free b ≡ true) × AllFree bs
 
 -- a block that is free has color 0
-tint-free : (color : ℕ → ℕ) (b : Block) → isFree b ≡ true → tint color b ≡ 0
-tint-free color b e = rw (e, tint)
+tint_free : (color : ℕ → ℕ) (b : Block) → is_free b ≡ true → tint color b ≡ 0
+tint_free color b e = rw (e, tint)
 
-tint-used : (color : ℕ → ℕ) (header size site : ℕ) → tint color (record { header = header; size = size; mark = site + 1 }) ≡ color site
-tint-used color header size site =
+tint_used : (color : ℕ → ℕ) (header size site : ℕ) → tint color (record { header = header; size = size; mark = site + 1 }) ≡ color site
+tint_used color header size site =
     let used : eqb (site + 1) 0 ≡ false = ne_eqb (site + 1) 0 (λ e. omega arith) in
     let back : site + 1 - 1 ≡ site = omega arith in
     rw (used, tint) (ap color back)
@@ -50,33 +50,33 @@ module _ (color : ℕ → ℕ) (m table : List ℕ) (b : Block) (want site : ℕ
     pub rest : List Block
     pub spare : AllFree rest
     pub body : k.body ≡ b.header + 8
-    pub swap : Swap color m table k.memory (paintMade table (color site) k) b.header (b.header + 8 + b.size)
+    pub swap : Swap color m table k.memory (paint_made table (color site) k) b.header (b.header + 8 + b.size)
         (record { header = b.header; size = k.size; mark = site + 1 } ∷ rest)
 
-  module _ (bytes : length m ≡ memorySize) (slots : length table ≡ tableSize) (stands : Stands color m table b.header b)
-      (free : isFree b ≡ true) (aligned : b.header % 8 ≡ 0) (in_heap : b.header + 8 + b.size ≤ endSlot)
+  module _ (bytes : length m ≡ memory_size) (slots : length table ≡ table_size) (stands : Stands color m table b.header b)
+      (free : is_free b ≡ true) (aligned : b.header % 8 ≡ 0) (in_heap : b.header + 8 + b.size ≤ end_slot)
       (few : site < 400) where
-    whole-block : Taken (record { body = body_of b; size = b.size; rest = []; memory = handOut m b.header b.size (site + 1) })
-    whole-block =
+    whole_block : Taken (record { body = body_of b; size = b.size; rest = []; memory = hand_out m b.header b.size (site + 1) })
+    whole_block =
         record {
           rest = [];
           spare = tt;
           body = refl;
           swap =
               record {
-                bytes = length-handOut m b.header b.size (site + 1) (omega arith);
+                bytes = length-hand_out m b.header b.size (site + 1) (omega arith);
                 slots = length-paint table (body_of b) b.size (color site) (omega arith) stands.whole (omega arith);
-                kept = λ a out. handOut-outside m b.header b.size (site + 1) (omega arith) a out;
-                painted = λ a out. paint-outside table (body_of b) b.size (color site) (omega arith) stands.whole (omega arith) a (λ x y. out (omega arith) (omega arith));
+                kept = λ a out. hand_out_outside m b.header b.size (site + 1) (omega arith) a out;
+                painted = λ a out. paint_outside table (body_of b) b.size (color site) (omega arith) stands.whole (omega arith) a (λ x y. out (omega arith) (omega arith));
                 now = (
                   record {
                     header = refl;
                     least = stands.least;
                     whole = stands.whole;
-                    size = handOut-size m b.header b.size (site + 1) (omega arith) (omega arith);
-                    mark = handOut-mark m b.header b.size (site + 1) (omega arith) (omega arith);
-                    head = λ a x y. paint-outside table (body_of b) b.size (color site) (omega arith) stands.whole (omega arith) a (λ z w. omega arith) ∙ stands.head a x y;
-                    body = λ a x y. paint-inside table (body_of b) b.size (color site) (omega arith) stands.whole (omega arith) a x y ∙ sym (tint-used color b.header b.size site);
+                    size = hand_out_size m b.header b.size (site + 1) (omega arith) (omega arith);
+                    mark = hand_out_mark m b.header b.size (site + 1) (omega arith) (omega arith);
+                    head = λ a x y. paint_outside table (body_of b) b.size (color site) (omega arith) stands.whole (omega arith) a (λ z w. omega arith) ∙ stands.head a x y;
+                    body = λ a x y. paint_inside table (body_of b) b.size (color site) (omega arith) stands.whole (omega arith) a x y ∙ sym (tint_used color b.header b.size site);
                   },
                   refl,
                 );
@@ -88,93 +88,93 @@ module _ (color : ℕ → ℕ) (m table : List ℕ) (b : Block) (want site : ℕ
       over = b.size - want - 8
 
       abbrev m₁ : List ℕ
-      m₁ = putHeader m (body_of b + want) over 0
+      m₁ = put_header m (body_of b + want) over 0
 
       abbrev t₁ : List ℕ
       t₁ = paint table (body_of b + want) 8 1
 
       m₂ : List ℕ
-      m₂ = handOut m₁ b.header want (site + 1)
+      m₂ = hand_out m₁ b.header want (site + 1)
 
       t₂ : List ℕ
       t₂ = paint t₁ (body_of b) want (color site)
 
       bytes₁ : length m₁ ≡ length m
-      bytes₁ = length-putHeader m (body_of b + want) over 0
+      bytes₁ = length-put_header m (body_of b + want) over 0
 
       slots₁ : length t₁ ≡ length table
       slots₁ = length-paint table (body_of b + want) 8 1 (omega (arith, stands.whole)) (omega arith) (omega arith)
 
       -- the header of the rest is painted first, then the body
-      outside₁ : (a : ℕ) → (body_of b + want ≤ a → a < body_of b + want + 8 → ⊥) → colorAt t₁ a ≡ colorAt table a
-      outside₁ = paint-outside table (body_of b + want) 8 1 (omega (arith, stands.whole)) (omega arith) (omega arith)
+      outside₁ : (a : ℕ) → (body_of b + want ≤ a → a < body_of b + want + 8 → ⊥) → color_at t₁ a ≡ color_at table a
+      outside₁ = paint_outside table (body_of b + want) 8 1 (omega (arith, stands.whole)) (omega arith) (omega arith)
 
-      outside₂ : (a : ℕ) → (body_of b ≤ a → a < body_of b + want → ⊥) → colorAt t₂ a ≡ colorAt t₁ a
+      outside₂ : (a : ℕ) → (body_of b ≤ a → a < body_of b + want → ⊥) → color_at t₂ a ≡ color_at t₁ a
       unfolding t₂
-      outside₂ = paint-outside t₁ (body_of b) want (color site) (omega arith) rounded (omega (arith, slots₁))
+      outside₂ = paint_outside t₁ (body_of b) want (color site) (omega arith) rounded (omega (arith, slots₁))
 
-      inside₂ : (a : ℕ) → body_of b ≤ a → a < body_of b + want → colorAt t₂ a ≡ color site
+      inside₂ : (a : ℕ) → body_of b ≤ a → a < body_of b + want → color_at t₂ a ≡ color site
       unfolding t₂
-      inside₂ = paint-inside t₁ (body_of b) want (color site) (omega arith) rounded (omega (arith, slots₁))
+      inside₂ = paint_inside t₁ (body_of b) want (color site) (omega arith) rounded (omega (arith, slots₁))
 
       kept₂ : (a : ℕ) → (b.header ≤ a → a < b.header + 8 + want → ⊥) → get_or m₂ a 0 ≡ get_or m₁ a 0
       unfolding m₂
-      kept₂ = handOut-outside m₁ b.header want (site + 1) (omega (arith, bytes₁))
+      kept₂ = hand_out_outside m₁ b.header want (site + 1) (omega (arith, bytes₁))
 
-      cut-made : Stands color m₂ t₂ b.header (record { header = b.header; size = want; mark = site + 1 })
+      cut_made : Stands color m₂ t₂ b.header (record { header = b.header; size = want; mark = site + 1 })
       unfolding m₂
-      cut-made =
+      cut_made =
           record {
             header = refl;
             least = least;
             whole = rounded;
-            size = handOut-size m₁ b.header want (site + 1) (omega (arith, bytes₁)) (omega arith);
-            mark = handOut-mark m₁ b.header want (site + 1) (omega (arith, bytes₁)) (omega arith);
+            size = hand_out_size m₁ b.header want (site + 1) (omega (arith, bytes₁)) (omega arith);
+            mark = hand_out_mark m₁ b.header want (site + 1) (omega (arith, bytes₁)) (omega arith);
             head = λ a x y. outside₂ a (λ z w. omega arith) ∙ outside₁ a (λ z w. omega arith) ∙ stands.head a x y;
-            body = λ a x y. inside₂ a x y ∙ sym (tint-used color b.header want site);
+            body = λ a x y. inside₂ a x y ∙ sym (tint_used color b.header want site);
           }
 
-      cut-rest : Stands color m₂ t₂ (b.header + 8 + want) (record { header = b.header + 8 + want; size = over; mark = 0 })
-      cut-rest =
+      cut_rest : Stands color m₂ t₂ (b.header + 8 + want) (record { header = b.header + 8 + want; size = over; mark = 0 })
+      cut_rest =
           record {
             header = refl;
             least = omega arith;
             whole = omega (arith, stands.whole);
             size =
-                numberAt-same 4 m₂ m₁ (body_of b + want) (λ k x y. kept₂ k (λ z w. omega arith))
-                ∙ header-size m (body_of b + want) over 0 (omega arith) (omega arith);
+                number_at_same 4 m₂ m₁ (body_of b + want) (λ k x y. kept₂ k (λ z w. omega arith))
+                ∙ header_size m (body_of b + want) over 0 (omega arith) (omega arith);
             mark =
-                numberAt-same 4 m₂ m₁ (body_of b + want + 4) (λ k x y. kept₂ k (λ z w. omega arith))
-                ∙ header-mark m (body_of b + want) over 0 (omega arith) (omega arith);
-            head = λ a x y. outside₂ a (λ z w. omega arith) ∙ paint-inside table (body_of b + want) 8 1 (omega (arith, stands.whole)) (omega arith) (omega arith) a x y;
-            body = λ a x y. outside₂ a (λ z w. omega arith) ∙ outside₁ a (λ z w. omega arith) ∙ stands.body a (omega arith) (omega arith) ∙ tint-free color b free;
+                number_at_same 4 m₂ m₁ (body_of b + want + 4) (λ k x y. kept₂ k (λ z w. omega arith))
+                ∙ header_mark m (body_of b + want) over 0 (omega arith) (omega arith);
+            head = λ a x y. outside₂ a (λ z w. omega arith) ∙ paint_inside table (body_of b + want) 8 1 (omega (arith, stands.whole)) (omega arith) (omega arith) a x y;
+            body = λ a x y. outside₂ a (λ z w. omega arith) ∙ outside₁ a (λ z w. omega arith) ∙ stands.body a (omega arith) (omega arith) ∙ tint_free color b free;
           }
 
-      cut-block : Taken (record { body = body_of b; size = want; rest = (body_of b + want) ∷ []; memory = handOut m₁ b.header want (site + 1) })
+      cut_block : Taken (record { body = body_of b; size = want; rest = (body_of b + want) ∷ []; memory = hand_out m₁ b.header want (site + 1) })
       unfolding m₂ t₂
-      cut-block =
+      cut_block =
           record {
             rest = record { header = b.header + 8 + want; size = over; mark = 0 } ∷ [];
             spare = (refl, tt);
             body = refl;
             swap =
                 record {
-                  bytes = length-handOut m₁ b.header want (site + 1) (omega (arith, bytes₁)) ∙ bytes₁;
+                  bytes = length-hand_out m₁ b.header want (site + 1) (omega (arith, bytes₁)) ∙ bytes₁;
                   slots = length-paint t₁ (body_of b) want (color site) (omega arith) rounded (omega (arith, slots₁)) ∙ slots₁;
-                  kept = λ a out. kept₂ a (λ x y. out (omega arith) (omega arith)) ∙ putHeader-outside m (body_of b + want) over 0 a (λ x y. out (omega arith) (omega arith));
+                  kept = λ a out. kept₂ a (λ x y. out (omega arith) (omega arith)) ∙ put_header_outside m (body_of b + want) over 0 a (λ x y. out (omega arith) (omega arith));
                   painted = λ a out. outside₂ a (λ x y. out (omega arith) (omega arith)) ∙ outside₁ a (λ x y. out (omega arith) (omega arith));
-                  now = (cut-made, (cut-rest, omega arith));
+                  now = (cut_made, (cut_rest, omega arith));
                 };
           }
 
     -- the block is cut, or handed out whole
-    pub block-taken : 8 ≤ want → want % 8 ≡ 0 → Taken (takeBlock m b want (site + 1))
-    unfolding takeBlock
-    block-taken least rounded = go (leb (want + 16) b.size) refl
+    pub block_taken : 8 ≤ want → want % 8 ≡ 0 → Taken (take_block m b want (site + 1))
+    unfolding take_block
+    block_taken least rounded = go (leb (want + 16) b.size) refl
       where
-        go : (t : Bool) → leb (want + 16) b.size ≡ t → Taken (takeBlock m b want (site + 1))
-        go true e = rw (e, takeBlock) (cut-block (leb-true (want + 16) b.size e) least rounded)
-        go false e = rw (e, takeBlock) whole-block
+        go : (t : Bool) → leb (want + 16) b.size ≡ t → Taken (take_block m b want (site + 1))
+        go true e = rw (e, take_block) (cut_block (leb-true (want + 16) b.size e) least rounded)
+        go false e = rw (e, take_block) whole_block
 
 -- ---- the search for a free body
 
@@ -187,14 +187,14 @@ module _ (color : ℕ → ℕ) (m table : List ℕ) (all : List Block) (site : �
     pub back : List Block
     pub at : ℕ
     pub was : all ≡ front ++ (taken ∷ back)
-    pub free : isFree taken ≡ true
+    pub free : is_free taken ≡ true
     pub spare : AllFree rest
     pub body : k.body ≡ at + 8
-    pub before : Segment color m table heapStart at front
-    pub behind : Segment color m table (at + 8 + taken.size) endSlot back
-    pub now : Tied color k.memory (paintMade table (color site) k)
+    pub before : Segment color m table heap_start at front
+    pub behind : Segment color m table (at + 8 + taken.size) end_slot back
+    pub now : Tied color k.memory (paint_made table (color site) k)
         (front ++ ((record { header = at; size = k.size; mark = site + 1 } ∷ rest) ++ back))
-    pub below : (a : ℕ) → a < heapStart → colorAt (paintMade table (color site) k) a ≡ colorAt table a
+    pub below : (a : ℕ) → a < heap_start → color_at (paint_made table (color site) k) a ≡ color_at table a
 
   -- what an answer of ALLOC says
   abbrev pub AllocFacts : Alloc → Type 0
@@ -204,17 +204,17 @@ module _ (color : ℕ → ℕ) (m table : List ℕ) (all : List Block) (site : �
 
   module _ (tied : Tied color m table all) (few : site < 400) (want : ℕ) (least : 8 ≤ want) (rounded : want % 8 ≡ 0) where
     hit : (front : List Block) (b : Block) (back : List Block) (at : ℕ) → all ≡ front ++ (b ∷ back)
-        → Segment color m table heapStart at front → Segment color m table at endSlot (b ∷ back) → isFree b ≡ true
-        → Handed (takeBlock m b want (site + 1))
+        → Segment color m table heap_start at front → Segment color m table at end_slot (b ∷ back) → is_free b ≡ true
+        → Handed (take_block m b want (site + 1))
     hit front b back at was before here free =
         let to : at ≡ b.header = sym here.0.header in
-        let before' : Segment color m table heapStart b.header front = subst (λ x. Segment color m table heapStart x front) to before in
-        let here' : Segment color m table b.header endSlot (b ∷ back) = subst (λ x. Segment color m table x endSlot (b ∷ back)) to here in
-        let low : heapStart + 16 * length front ≤ b.header = segment-long color m table front heapStart b.header before' in
-        let high : b.header + 8 + b.size + 16 * length back ≤ endSlot = segment-long color m table back (b.header + 8 + b.size) endSlot here'.1 in
-        let got : Taken color m table b want site (takeBlock m b want (site + 1)) =
-        block-taken color m table b want site tied.bytes tied.slots here'.0 free
-        (segment-whole color m table front heapStart b.header refl before') (omega arith) few least rounded in
+        let before' : Segment color m table heap_start b.header front = subst (λ x. Segment color m table heap_start x front) to before in
+        let here' : Segment color m table b.header end_slot (b ∷ back) = subst (λ x. Segment color m table x end_slot (b ∷ back)) to here in
+        let low : heap_start + 16 * length front ≤ b.header = segment_long color m table front heap_start b.header before' in
+        let high : b.header + 8 + b.size + 16 * length back ≤ end_slot = segment_long color m table back (b.header + 8 + b.size) end_slot here'.1 in
+        let got : Taken color m table b want site (take_block m b want (site + 1)) =
+        block_taken color m table b want site tied.bytes tied.slots here'.0 free
+        (segment_whole color m table front heap_start b.header refl before') (omega arith) few least rounded in
         record {
           front = front;
           taken = b;
@@ -232,33 +232,33 @@ module _ (color : ℕ → ℕ) (m table : List ℕ) (all : List Block) (site : �
                 bytes = got.swap.bytes ∙ tied.bytes;
                 slots = got.swap.slots ∙ tied.slots;
                 segment =
-                    segment-swaps color m table _ _ front (record { header = b.header; size = (takeBlock m b want (site + 1)).size; mark = site + 1 } ∷ got.rest)
-                    back heapStart b.header (b.header + 8 + b.size) endSlot before' got.swap here'.1;
+                    segment_swaps color m table _ _ front (record { header = b.header; size = (take_block m b want (site + 1)).size; mark = site + 1 } ∷ got.rest)
+                    back heap_start b.header (b.header + 8 + b.size) end_slot before' got.swap here'.1;
                 last = λ a x y. got.swap.painted a (λ z w. omega arith) ∙ tied.last a x y;
               };
           below = λ a x. got.swap.painted a (λ z w. omega arith);
         }
 
-    fit : (front bs : List Block) (at : ℕ) → all ≡ front ++ bs → Segment color m table heapStart at front → Segment color m table at endSlot bs
-        → AllocFacts (firstFit m bs want (site + 1))
-    unfolding firstFit
+    fit : (front bs : List Block) (at : ℕ) → all ≡ front ++ bs → Segment color m table heap_start at front → Segment color m table at end_slot bs
+        → AllocFacts (first_fit m bs want (site + 1))
+    unfolding first_fit
     fit front [] at was before here = tt
     fit front (b ∷ bs) at was before here =
-        go (fit (front ++ (b ∷ [])) bs (at + 8 + b.size) (was ∙ sym (append_assoc front (b ∷ []) bs)) (segment-append color m table front (b ∷ []) heapStart at (at + 8 + b.size) before (here.0, refl)) here.1)
-        (isFree b) refl (leb want b.size) refl
+        go (fit (front ++ (b ∷ [])) bs (at + 8 + b.size) (was ∙ sym (append_assoc front (b ∷ []) bs)) (segment_append color m table front (b ∷ []) heap_start at (at + 8 + b.size) before (here.0, refl)) here.1)
+        (is_free b) refl (leb want b.size) refl
       where
-        go : AllocFacts (firstFit m bs want (site + 1)) → (f : Bool) → isFree b ≡ f → (l : Bool) → leb want b.size ≡ l → AllocFacts (firstFit m (b ∷ bs) want (site + 1))
-        go later true e true e' = rw (e, e', firstFit) (hit front b bs at was before here e)
-        go later true e false e' = rw (e, e', firstFit) later
-        go later false e l e' = rw (e, firstFit) later
+        go : AllocFacts (first_fit m bs want (site + 1)) → (f : Bool) → is_free b ≡ f → (l : Bool) → leb want b.size ≡ l → AllocFacts (first_fit m (b ∷ bs) want (site + 1))
+        go later true e true e' = rw (e, e', first_fit) (hit front b bs at was before here e)
+        go later true e false e' = rw (e, e', first_fit) later
+        go later false e l e' = rw (e, first_fit) later
 
-pub alloc-facts : (color : ℕ → ℕ) (m table : List ℕ) (bs : List Block) (size site : ℕ) → Tied color m table bs → site < 400
+pub alloc_facts : (color : ℕ → ℕ) (m table : List ℕ) (bs : List Block) (size site : ℕ) → Tied color m table bs → site < 400
     → AllocFacts color m table bs site (alloc m size site)
 unfolding alloc
-alloc-facts color m table bs size site tied few = go (eqb size 0) refl (leb size 4096) refl
+alloc_facts color m table bs size site tied few = go (eqb size 0) refl (leb size 4096) refl
   where
-    searched : 1 ≤ size → AllocFacts color m table bs site (allocIn m size site (walk m))
-    searched some = rw (tied-walk color m table bs tied) (fit color m table bs site tied few (extent size) (omega arith) (omega arith) [] bs heapStart refl refl tied.segment)
+    searched : 1 ≤ size → AllocFacts color m table bs site (alloc_in m size site (walk m))
+    searched some = rw (tied_walk color m table bs tied) (fit color m table bs site tied few (extent size) (omega arith) (omega arith) [] bs heap_start refl refl tied.segment)
 
     go : (z : Bool) → eqb size 0 ≡ z → (l : Bool) → leb size 4096 ≡ l → AllocFacts color m table bs site (alloc m size site)
     go true e l e' = rw (e, alloc) tt

@@ -25,43 +25,43 @@ use lib.Dec.{ltb, eqb}
 use borrow.Author.Tests.{ltb-true, ltb-false, leb-true, eqb-true}
 use Rattle.opcodes.specs.declared.Instr.{Instr}
 use Rattle.files.specs.Program.{Program}
-use Rattle.opcodes.specs.View.{Aim, inGlobal, atTemp, Act, View, act, jump, jumpIf, store, check, view, extent}
-use Rattle.safety.specs.Unsafe.{safeAim, setOf, Unsafe, unsafeIn, size_of}
-use Rattle.safety.proofs.Stores.{unsafeStore, safe-none, unsafe-one}
+use Rattle.opcodes.specs.View.{Aim, in_global, at_temp, Act, View, act, jump, jump_if, store, check, view, extent}
+use Rattle.safety.specs.Unsafe.{safe_aim, set_of, Unsafe, unsafe_in, size_of}
+use Rattle.safety.proofs.Stores.{unsafe_store, safe_none, unsafe_one}
 use Rattle.layout.specs.Layout.{start_of, fits}
-use Rattle.instructions.proofs.Moving.{movedView, view-moved}
-use Rattle.instrumenter.proofs.Guarded.{view-check}
-use Rattle.memory.specs.Memory.{memorySize, colorAt, bytes_of, put, everyByte, inside}
-use Rattle.heap.specs.Heap.{heapStart}
-use Rattle.memory.proofs.Memory.{length-bytesOf, everyByte-each}
+use Rattle.instructions.proofs.Moving.{moved_view, view_moved}
+use Rattle.instrumenter.proofs.Guarded.{view_check}
+use Rattle.memory.specs.Memory.{memory_size, color_at, bytes_of, put, every_byte, inside}
+use Rattle.heap.specs.Heap.{heap_start}
+use Rattle.memory.proofs.Memory.{length-bytes_of, every_byte_each}
 use Rattle.stops.specs.declared.Reason.{Reason}
 use Rattle.machine.specs.State.{Given, State, temp, address_of, width_of, span_of}
 use Rattle.machine.specs.Step.{Effect, stops, passes, completes, stop, next, storing, conclude, effect, next_at, lets, perform, step}
-use Rattle.memory.specs.Memory.{hasColor}
-use Rattle.machine.proofs.Steps.{step_past, step-limit, step-goes}
-use Rattle.machine.proofs.Effects.{Calm, image, Follows, act-follows}
+use Rattle.memory.specs.Memory.{has_color}
+use Rattle.machine.proofs.Steps.{step_past, step_limit, step_goes}
+use Rattle.machine.proofs.Effects.{Calm, image, Follows, act_follows}
 use Rattle.plain.specs.Live.{Live}
-use Rattle.plain.specs.Plain.{keepsTo, inClass}
+use Rattle.plain.specs.Plain.{keeps_to, in_class}
 use Rattle.plain.specs.Guards.{Guards}
 use Rattle.plain.proofs.Good.{Fine, Good}
-use Rattle.plain.proofs.Aims.{class-unsafe, some_bytes, inside_is}
-use Rattle.plain.proofs.Globals.{global-end, globals-whole}
-use Rattle.plain.proofs.Holding.{Holds, rule-same, holds-put}
-use Rattle.plain.proofs.Rules.{rule₁, rule₂, start-same, alike}
+use Rattle.plain.proofs.Aims.{class_unsafe, some_bytes, inside_is}
+use Rattle.plain.proofs.Globals.{global_end, globals_whole}
+use Rattle.plain.proofs.Holding.{Holds, rule_same, holds_put}
+use Rattle.plain.proofs.Rules.{rule₁, rule₂, start_same, alike}
 use Rattle.plain.proofs.Standing.{Alone, alone, Checked, checked, place_inside}
-use Rattle.routines.specs.Accepted.{plainPieces}
+use Rattle.routines.specs.Accepted.{plain_pieces}
 
-has-color : (table : List ℕ) (c a : ℕ) → hasColor table c a ≡ true → (a < memorySize) × (colorAt table a ≡ c)
-has-color table c a = go (ltb a memorySize) refl
+has_color_lem : (table : List ℕ) (c a : ℕ) → has_color table c a ≡ true → (a < memory_size) × (color_at table a ≡ c)
+has_color_lem table c a = go (ltb a memory_size) refl
   where
-    go : (b : Bool) → ltb a memorySize ≡ b → elim b [ true ↦ eqb (colorAt table a) c | false ↦ false ] ≡ true → (a < memorySize) × (colorAt table a ≡ c)
-    go true e q = (ltb-true a memorySize e, eqb-true (colorAt table a) c q)
+    go : (b : Bool) → ltb a memory_size ≡ b → elim b [ true ↦ eqb (color_at table a) c | false ↦ false ] ≡ true → (a < memory_size) × (color_at table a ≡ c)
+    go true e q = (ltb-true a memory_size e, eqb-true (color_at table a) c q)
     go false e q = absurd (false≢true q)
 
 -- bytes that all lie inside memory end there
-all-inside : (a n : ℕ) → 1 ≤ n → ((k : ℕ) → a ≤ k → k < a + n → k < memorySize) → a + n ≤ memorySize
-all-inside a (suc n) some each = omega (arith, each (a + n) (omega arith) (omega arith))
-all-inside a zero some each = absurd (not-suc-le-zero some)
+all_inside : (a n : ℕ) → 1 ≤ n → ((k : ℕ) → a ≤ k → k < a + n → k < memory_size) → a + n ≤ memory_size
+all_inside a (suc n) some each = omega (arith, each (a + n) (omega arith) (omega arith))
+all_inside a zero some each = absurd (not-suc-le-zero some)
 
 module _ (p q : Program) (guards : Guards p q) (given : Given) where
   abbrev color : ℕ → ℕ
@@ -95,8 +95,8 @@ module _ (p q : Program) (guards : Guards p q) (given : Given) where
   -- every byte that an aim covers is inside memory and of a class's color
   abbrev pub Colored : State (List Live) → (table : List ℕ) → Aim → Type 0
   Colored s table aim =
-      (k : ℕ) → address_of (start_of (plainPieces p)) s.temps aim ≤ k → k < address_of (start_of (plainPieces p)) s.temps aim + width_of aim
-      → (k < memorySize) × (2 ≤ colorAt table k)
+      (k : ℕ) → address_of (start_of (plain_pieces p)) s.temps aim ≤ k → k < address_of (start_of (plain_pieces p)) s.temps aim + width_of aim
+      → (k < memory_size) × (2 ≤ color_at table k)
 
   pub data Lock (s : State (List Live)) (own : List ℕ × List Live) : Type 0 where
     halts : Halts s (place s.at) own → Lock s own
@@ -153,65 +153,65 @@ module _ (p q : Program) (guards : Guards p q) (given : Given) where
         → Halts s at₂ own ⊎ Goes s at₂ own
     led v w behind to f one two = concluded v w behind to (effect (rule₁ p) given s v) (effect (rule₂ q) given r w) f one two
 
-  lock-of : {s : State (List Live)} {own : List ℕ × List Live} → Halts s (place s.at) own ⊎ Goes s (place s.at) own → Lock s own
-  lock-of (inl x) = Lock.halts x
-  lock-of (inr x) = Lock.goes x
+  lock_of : {s : State (List Live)} {own : List ℕ × List Live} → Halts s (place s.at) own ⊎ Goes s (place s.at) own → Lock s own
+  lock_of (inl x) = Lock.halts x
+  lock_of (inr x) = Lock.goes x
 
   -- ---- an instruction, by what it is
 
-  module _ (good : Good p) (fitting : fits (plainPieces p) ≡ true)
+  module _ (good : Good p) (fitting : fits (plain_pieces p) ≡ true)
       (s : State (List Live)) (own : List ℕ × List Live) (h : Holds p color s.own own s.memory)
-      (in_code : s.at < length p.code) (inLimit : s.steps < given.limit) where
+      (in_code : s.at < length p.code) (in_limit : s.steps < given.limit) where
     abbrev here : Instr
     here = get_or p.code s.at Instr.End
 
     step₁ : (v : View) → view here ≡ v → step (rule₁ p) given s ≡ perform (rule₁ p) given s v
-    step₁ v e = step-goes (rule₁ p) given s in_code inLimit ∙ ap (perform (rule₁ p) given s) e
+    step₁ v e = step_goes (rule₁ p) given s in_code in_limit ∙ ap (perform (rule₁ p) given s) e
 
     step₂ : (at₂ : ℕ) (w : View) → at₂ < length q.code → view (get_or q.code at₂ Instr.End) ≡ w
         → step (rule₂ q) given (image s at₂ own) ≡ perform (rule₂ q) given (image s at₂ own) w
-    step₂ at₂ w inside e = step-goes (rule₂ q) given (image s at₂ own) inside inLimit ∙ ap (perform (rule₂ q) given (image s at₂ own)) e
+    step₂ at₂ w inside e = step_goes (rule₂ q) given (image s at₂ own) inside in_limit ∙ ap (perform (rule₂ q) given (image s at₂ own)) e
 
     -- an instruction with no check, whose effects follow one another
-    module _ (v : View) (e : view here ≡ v) (none : unsafeIn p v ≡ []) where
+    module _ (v : View) (e : view here ≡ v) (none : unsafe_in p v ≡ []) where
       a : Alone p q guards s.at in_code
-      a = alone p q guards s.at in_code (ap (unsafeIn p) e ∙ none)
+      a = alone p q guards s.at in_code (ap (unsafe_in p) e ∙ none)
 
-      at_new : view (get_or q.code (place s.at) Instr.End) ≡ movedView target v
-      at_new = ap view a.here ∙ view-moved target here ∙ ap (movedView target) e
+      at_new : view (get_or q.code (place s.at) Instr.End) ≡ moved_view target v
+      at_new = ap view a.here ∙ view_moved target here ∙ ap (moved_view target) e
 
-      moved-step : step (rule₂ q) given (placed s own) ≡ perform (rule₂ q) given (placed s own) (movedView target v)
-      moved-step = step₂ (place s.at) (movedView target v) a.inside₂ at_new
+      moved_step : step (rule₂ q) given (placed s own) ≡ perform (rule₂ q) given (placed s own) (moved_view target v)
+      moved_step = step₂ (place s.at) (moved_view target v) a.inside₂ at_new
 
-    lock-act : (x : Act) → view here ≡ act x → Fine p (act x) → Lock s own
-    lock-act x e f =
-        lock-of
+    lock_act : (x : Act) → view here ≡ act x → Fine p (act x) → Lock s own
+    lock_act x e f =
+        lock_of
         (led s (place s.at) own h (act x) (act x) (sym (a (act x) e refl).follows) (sym (a (act x) e refl).follows)
-        (act-follows (Holds p color) Calm (rule₁ p) (rule₂ q) (λ g. g < length p.objects) (alike p q guards good fitting) given s (place s.at) own h x f)
-        (step₁ (act x) e) (moved-step (act x) e refl))
+        (act_follows (Holds p color) Calm (rule₁ p) (rule₂ q) (λ g. g < length p.objects) (alike p q guards good fitting) given s (place s.at) own h x f)
+        (step₁ (act x) e) (moved_step (act x) e refl))
 
-    lock-jump : (t : ℕ) → view here ≡ jump t → Lock s own
-    lock-jump t e =
-        lock-of
+    lock_jump : (t : ℕ) → view here ≡ jump t → Lock s own
+    lock_jump t e =
+        lock_of
         (led s (place s.at) own h (jump t) (jump (target t)) (sym (a (jump t) e refl).follows) (guards.jumps t)
-        (own, refl, h) (step₁ (jump t) e) (moved-step (jump t) e refl))
+        (own, refl, h) (step₁ (jump t) e) (moved_step (jump t) e refl))
 
-    lock-jumpIf : (x t : ℕ) → view here ≡ jumpIf x t → Lock s own
-    lock-jumpIf x t e =
-        lock-of
-        (led s (place s.at) own h (jumpIf x t) (jumpIf x (target t)) (sym (a (jumpIf x t) e refl).follows)
-        (to (eqb (temp s.temps x) 0)) (own, refl, h) (step₁ (jumpIf x t) e) (moved-step (jumpIf x t) e refl))
+    lock_jump_if : (x t : ℕ) → view here ≡ jump_if x t → Lock s own
+    lock_jump_if x t e =
+        lock_of
+        (led s (place s.at) own h (jump_if x t) (jump_if x (target t)) (sym (a (jump_if x t) e refl).follows)
+        (to (eqb (temp s.temps x) 0)) (own, refl, h) (step₁ (jump_if x t) e) (moved_step (jump_if x t) e refl))
       where
         to : (b : Bool) → ◌≡◌ {A = ℕ} (elim b [ true ↦ place s.at + 1 | false ↦ target t ])
             (place (elim b [ true ↦ s.at + 1 | false ↦ t ]))
-        to true = sym (a (jumpIf x t) e refl).follows
+        to true = sym (a (jump_if x t) e refl).follows
         to false = guards.jumps t
 
     -- ---- a store
 
     module _ (aim : Aim) (b s₀ : ℕ) (e : view here ≡ store aim b s₀) where
       abbrev address : ℕ
-      address = address_of (start_of (plainPieces p)) s.temps aim
+      address = address_of (start_of (plain_pieces p)) s.temps aim
 
       abbrev bytes : List ℕ
       bytes = bytes_of (width_of aim) (temp s.temps b)
@@ -224,102 +224,102 @@ module _ (p q : Program) (guards : Guards p q) (given : Given) where
           went s at₂ own h (store aim b s₀) (store aim b 0) behind s.temps (put s.memory address bytes) s.outs s.taken s.own own
           (step₁ (store aim b s₀) e ∙ rw (allowed, perform) (rw (fits, storing)))
           (step₂ at₂ (store aim b 0) inside₂ is
-          ∙ ap (λ f. conclude (rule₂ q) given (image s at₂ own) (store aim b 0) (storing (rule₂ q) given (image s at₂ own) (span_of f s.temps aim) (temp s.temps b))) (start-same p q guards)
+          ∙ ap (λ f. conclude (rule₂ q) given (image s at₂ own) (store aim b 0) (storing (rule₂ q) given (image s at₂ own) (span_of f s.temps aim) (temp s.temps b))) (start_same p q guards)
           ∙ rw (fits, storing))
           holds
 
       -- a safe PUT stays in its global, below the heap
-      safe-low : (x : Aim) → Fine p (store x b s₀) → safeAim p x ≡ true → address_of (start_of (plainPieces p)) s.temps x + width_of x ≤ heapStart
-      safe-low (inGlobal g k w) f safe =
-          omega (arith, leb-true (k + width_of (inGlobal g k w)) (extent (size_of p.objects g)) safe, global-end p fitting g f.0 f.1)
-      safe-low (atTemp t w) f safe = absurd (false≢true safe)
+      safe_low : (x : Aim) → Fine p (store x b s₀) → safe_aim p x ≡ true → address_of (start_of (plain_pieces p)) s.temps x + width_of x ≤ heap_start
+      safe_low (in_global g k w) f safe =
+          omega (arith, leb-true (k + width_of (in_global g k w)) (extent (size_of p.objects g)) safe, global_end p fitting g f.0 f.1)
+      safe_low (at_temp t w) f safe = absurd (false≢true safe)
 
-      lock-safe : safeAim p aim ≡ true → Lock s own
-      lock-safe safe =
-          let low : address + width_of aim ≤ heapStart = safe-low aim (subst (Fine p) e (good.fines s.at in_code)) safe in
-          let none : unsafeIn p (store aim b s₀) ≡ [] = safe-none p aim b s₀ safe in
-          let allowed : lets (rule₁ p) given s (store aim b s₀) ≡ true = ap (λ (us : List Unsafe). keepsTo p s.own us (span_of (start_of (plainPieces p)) s.temps aim)) none in
+      lock_safe : safe_aim p aim ≡ true → Lock s own
+      lock_safe safe =
+          let low : address + width_of aim ≤ heap_start = safe_low aim (subst (Fine p) e (good.fines s.at in_code)) safe in
+          let none : unsafe_in p (store aim b s₀) ≡ [] = safe_none p aim b s₀ safe in
+          let allowed : lets (rule₁ p) given s (store aim b s₀) ≡ true = ap (λ (us : List Unsafe). keeps_to p s.own us (span_of (start_of (plain_pieces p)) s.temps aim)) none in
           Lock.goes
           (stores (place s.at) (a (store aim b s₀) e none).inside₂ (at_new (store aim b s₀) e none) (sym (a (store aim b s₀) e none).follows)
           allowed (inside_is address (width_of aim) (some_bytes aim) (omega arith))
-          (holds-put p color (globals-whole p fitting) s.own own s.memory h address bytes
-          (λ k x y from one. omega (arith, length-bytesOf (width_of aim) (temp s.temps b)))))
+          (holds_put p color (globals_whole p fitting) s.own own s.memory h address bytes
+          (λ k x y from one. omega (arith, length-bytes_of (width_of aim) (temp s.temps b)))))
 
-      module _ (unsafe : safeAim p aim ≡ false) where
+      module _ (unsafe : safe_aim p aim ≡ false) where
         abbrev set : List ℕ
-        set = setOf p aim s₀
+        set = set_of p aim s₀
 
         abbrev its : ℕ
         its = color (get_or set 0 0)
 
-        guard : Checked p q guards s.at in_code (unsafeStore p aim s₀)
-        guard = checked p q guards s.at in_code (unsafeStore p aim s₀) (ap (unsafeIn p) e ∙ unsafe-one p aim b s₀ unsafe)
+        guard : Checked p q guards s.at in_code (unsafe_store p aim s₀)
+        guard = checked p q guards s.at in_code (unsafe_store p aim s₀) (ap (unsafe_in p) e ∙ unsafe_one p aim b s₀ unsafe)
 
-        lets₁ : lets (rule₁ p) given s (store aim b s₀) ≡ everyByte (width_of aim) (inClass p s.own set) address
-        lets₁ = ap (λ (us : List Unsafe). keepsTo p s.own us (span_of (start_of (plainPieces p)) s.temps aim)) (unsafe-one p aim b s₀ unsafe)
+        lets₁ : lets (rule₁ p) given s (store aim b s₀) ≡ every_byte (width_of aim) (in_class p s.own set) address
+        lets₁ = ap (λ (us : List Unsafe). keeps_to p s.own us (span_of (start_of (plain_pieces p)) s.temps aim)) (unsafe_one p aim b s₀ unsafe)
 
         -- the check asks what the plain rule asks
-        lets₂ : lets (rule₂ q) given (placed s own) (check aim its) ≡ everyByte (width_of aim) (inClass p s.own set) address
+        lets₂ : lets (rule₂ q) given (placed s own) (check aim its) ≡ every_byte (width_of aim) (in_class p s.own set) address
         lets₂ =
-            ap (λ f. everyByte (width_of aim) (hasColor own.0 its) (address_of f s.temps aim)) (start-same p q guards)
-            ∙ sym (rule-same p color (globals-whole p fitting) s.own own s.memory h guards.exact set (class-unsafe p good s.at in_code aim b s₀ e unsafe) (width_of aim) address)
+            ap (λ f. every_byte (width_of aim) (has_color own.0 its) (address_of f s.temps aim)) (start_same p q guards)
+            ∙ sym (rule_same p color (globals_whole p fitting) s.own own s.memory h guards.exact set (class_unsafe p good s.at in_code aim b s₀ e unsafe) (width_of aim) address)
 
-        check-step : step (rule₂ q) given (placed s own) ≡ perform (rule₂ q) given (placed s own) (check aim its)
-        check-step = step₂ (place s.at) (check aim its) (place_inside p q guards s.at in_code) (ap view guard.here ∙ view-check aim its)
+        check_step : step (rule₂ q) given (placed s own) ≡ perform (rule₂ q) given (placed s own) (check aim its)
+        check_step = step₂ (place s.at) (check aim its) (place_inside p q guards s.at in_code) (ap view guard.here ∙ view_check aim its)
 
         -- a byte that the check has passed is inside memory and of the class's color
-        passed : everyByte (width_of aim) (inClass p s.own set) address ≡ true
-            → (k : ℕ) → address ≤ k → k < address + width_of aim → (k < memorySize) × (colorAt own.0 k ≡ its)
+        passed : every_byte (width_of aim) (in_class p s.own set) address ≡ true
+            → (k : ℕ) → address ≤ k → k < address + width_of aim → (k < memory_size) × (color_at own.0 k ≡ its)
         passed all k x y =
-            has-color own.0 its k
-            (everyByte-each (width_of aim) (hasColor own.0 its) address
-            (sym (rule-same p color (globals-whole p fitting) s.own own s.memory h guards.exact set (class-unsafe p good s.at in_code aim b s₀ e unsafe) (width_of aim) address) ∙ all) k x y)
+            has_color_lem own.0 its k
+            (every_byte_each (width_of aim) (has_color own.0 its) address
+            (sym (rule_same p color (globals_whole p fitting) s.own own s.memory h guards.exact set (class_unsafe p good s.at in_code aim b s₀ e unsafe) (width_of aim) address) ∙ all) k x y)
 
-        lock-unsafe : (t : Bool) → everyByte (width_of aim) (inClass p s.own set) address ≡ t → Lock s own
-        lock-unsafe false none =
+        lock_unsafe : (t : Bool) → every_byte (width_of aim) (in_class p s.own set) address ≡ t → Lock s own
+        lock_unsafe false none =
             let no₁ : lets (rule₁ p) given s (store aim b s₀) ≡ false = lets₁ ∙ none in
             let no₂ : lets (rule₂ q) given (placed s own) (check aim its) ≡ false = lets₂ ∙ none in
-            Lock.halts (record { reason = Reason.Forbidden; plain = step₁ (store aim b s₀) e ∙ rw (no₁, perform); guarded = check-step ∙ rw (no₂, perform); calm = tt })
-        lock-unsafe true all =
+            Lock.halts (record { reason = Reason.Forbidden; plain = step₁ (store aim b s₀) e ∙ rw (no₁, perform); guarded = check_step ∙ rw (no₂, perform); calm = tt })
+        lock_unsafe true all =
             let so₂ : lets (rule₂ q) given (placed s own) (check aim its) ≡ true = lets₂ ∙ all in
-            let low : 2 ≤ its = guards.exact.low (get_or set 0 0) (class-unsafe p good s.at in_code aim b s₀ e unsafe) in
+            let low : 2 ≤ its = guards.exact.low (get_or set 0 0) (class_unsafe p good s.at in_code aim b s₀ e unsafe) in
             let behind : view (get_or q.code (place s.at + 1) Instr.End) ≡ store aim b 0 =
-            ap view guard.behind ∙ view-moved target here ∙ ap (movedView target) e in
-            Lock.checks aim b behind (λ k x y. ((passed all k x y).0, omega (arith, (passed all k x y).1))) (check-step ∙ rw (so₂, perform))
+            ap view guard.behind ∙ view_moved target here ∙ ap (moved_view target) e in
+            Lock.checks aim b behind (λ k x y. ((passed all k x y).0, omega (arith, (passed all k x y).1))) (check_step ∙ rw (so₂, perform))
             (stores (place s.at + 1) guard.inside₂ behind (sym guard.follows)
-            (lets₁ ∙ all) (inside_is address (width_of aim) (some_bytes aim) (all-inside address (width_of aim) (some_bytes aim) (λ k x y. (passed all k x y).0)))
-            (holds-put p color (globals-whole p fitting) s.own own s.memory h address bytes
-            (λ k x y from one. omega (arith, (passed all k x (omega (arith, length-bytesOf (width_of aim) (temp s.temps b)))).1))))
+            (lets₁ ∙ all) (inside_is address (width_of aim) (some_bytes aim) (all_inside address (width_of aim) (some_bytes aim) (λ k x y. (passed all k x y).0)))
+            (holds_put p color (globals_whole p fitting) s.own own s.memory h address bytes
+            (λ k x y from one. omega (arith, (passed all k x (omega (arith, length-bytes_of (width_of aim) (temp s.temps b)))).1))))
 
-    lock-store : (aim : Aim) (b s₀ : ℕ) → view here ≡ store aim b s₀ → Lock s own
-    lock-store aim b s₀ e = go (safeAim p aim) refl
+    lock_store : (aim : Aim) (b s₀ : ℕ) → view here ≡ store aim b s₀ → Lock s own
+    lock_store aim b s₀ e = go (safe_aim p aim) refl
       where
-        go : (t : Bool) → safeAim p aim ≡ t → Lock s own
-        go true safe = lock-safe aim b s₀ e safe
-        go false unsafe = lock-unsafe aim b s₀ e unsafe _ refl
+        go : (t : Bool) → safe_aim p aim ≡ t → Lock s own
+        go true safe = lock_safe aim b s₀ e safe
+        go false unsafe = lock_unsafe aim b s₀ e unsafe _ refl
 
-    lock-view : (v : View) → view here ≡ v → Fine p v → Lock s own
-    lock-view (act x) e f = lock-act x e f
-    lock-view (jump t) e f = lock-jump t e
-    lock-view (jumpIf x t) e f = lock-jumpIf x t e
-    lock-view (store aim b s₀) e f = lock-store aim b s₀ e
-    lock-view (check aim c) e f = absurd f
+    lock_view : (v : View) → view here ≡ v → Fine p v → Lock s own
+    lock_view (act x) e f = lock_act x e f
+    lock_view (jump t) e f = lock_jump t e
+    lock_view (jump_if x t) e f = lock_jump_if x t e
+    lock_view (store aim b s₀) e f = lock_store aim b s₀ e
+    lock_view (check aim c) e f = absurd f
 
   -- ---- any tied states
 
-  pub lock : Good p → fits (plainPieces p) ≡ true
+  pub lock : Good p → fits (plain_pieces p) ≡ true
       → (s : State (List Live)) (own : List ℕ × List Live) → Holds p color s.own own s.memory → Lock s own
   lock good fitting s own h = code (ltb s.at (length p.code)) refl
     where
       limit : s.at < length p.code → (t : Bool) → ltb s.steps given.limit ≡ t → Lock s own
       limit in_code true l =
-          lock-view good fitting s own h in_code (ltb-true _ _ l) (view (get_or p.code s.at Instr.End)) refl (good.fines s.at in_code)
+          lock_view good fitting s own h in_code (ltb-true _ _ l) (view (get_or p.code s.at Instr.End)) refl (good.fines s.at in_code)
       limit in_code false l =
           Lock.halts
           (record {
             reason = Reason.LimitUsed;
-            plain = step-limit (rule₁ p) given s in_code (ltb-false _ _ l);
-            guarded = step-limit (rule₂ q) given (placed s own) (place_inside p q guards s.at in_code) (ltb-false _ _ l);
+            plain = step_limit (rule₁ p) given s in_code (ltb-false _ _ l);
+            guarded = step_limit (rule₂ q) given (placed s own) (place_inside p q guards s.at in_code) (ltb-false _ _ l);
             calm = tt;
           })
 

@@ -19,14 +19,14 @@ use borrow.Author.Tests.{ltb-true}
 use Rattle.opcodes.specs.declared.Instr.{Instr}
 use Rattle.opcodes.specs.View.{View, view}
 use Rattle.stops.specs.declared.Reason.{Reason}
-use Rattle.machine.specs.State.{Rule, Given, State, startState}
+use Rattle.machine.specs.State.{Rule, Given, State, start_state}
 use Rattle.machine.specs.Step.{Effect, stops, passes, completes, Next, stop, next, conclude, effect, lets, perform, step}
-use Rattle.machine.specs.Runs.{stopped, run_from, turnsFor, runs}
-use Rattle.start.specs.First.{firstTable}
-use Rattle.machine.specs.Colors.{tableRule}
-use Rattle.machine.proofs.Steps.{stop-not-next, next-same, stop-same}
-use Rattle.machine.proofs.Turns.{turn_on, turn-stop}
-use Rattle.plain.specs.Plain.{plainRule}
+use Rattle.machine.specs.Runs.{stopped, run_from, turns_for, runs}
+use Rattle.start.specs.First.{first_table}
+use Rattle.machine.specs.Colors.{table_rule}
+use Rattle.machine.proofs.Steps.{stop_not_next, next_same, stop_same}
+use Rattle.machine.proofs.Turns.{turn_on, turn_stop}
+use Rattle.plain.specs.Plain.{plain_rule}
 use Rattle.plain.specs.Demands.{Reaches, Stops, EveryRunStops, StopsOnce}
 
 module _ {S : Type 0} (rule : Rule S) (given : Given) where
@@ -40,11 +40,11 @@ module _ {S : Type 0} (rule : Rule S) (given : Given) where
       × (state.steps < given.limit)
       × ((after.steps ≡ state.steps + 1) ⊎ ((after.steps ≡ state.steps) × (after.at ≡ state.at + 1)))
 
-  module _ (state : State S) (in_code : state.at < length rule.code) (inLimit : state.steps < given.limit) where
+  module _ (state : State S) (in_code : state.at < length rule.code) (in_limit : state.steps < given.limit) where
     concluded : (v : View) (e : Effect S) → Forward state (conclude rule given state v e)
     concluded v (stops reason) = tt
-    concluded v passes = (in_code, inLimit, inr (refl, refl))
-    concluded v (completes temps memory outs taken own) = (in_code, inLimit, inl refl)
+    concluded v passes = (in_code, in_limit, inr (refl, refl))
+    concluded v (completes temps memory outs taken own) = (in_code, in_limit, inl refl)
 
     performed : (v : View) (b : Bool) → Forward state (elim b [ true ↦ conclude rule given state v (effect rule given state v) | false ↦ stop Reason.Forbidden ])
     performed v true = concluded v (effect rule given state v)
@@ -87,10 +87,10 @@ module _ {S : Type 0} (rule : Rule S) (given : Given) where
         → state.at < length rule.code → state.steps < given.limit
         → (after.steps ≡ state.steps + 1) ⊎ ((after.steps ≡ state.steps) × (after.at ≡ state.at + 1))
         → (left' : ℕ) × Enough turns left' after
-    fewer turns zero state after enough in_code inLimit (inl one) = absurd (omega arith)
-    fewer turns (suc left) state after enough in_code inLimit (inl one) = (left, (omega arith, omega arith))
-    fewer turns zero state after enough in_code inLimit (inr same) = absurd (omega arith)
-    fewer turns (suc left) state after enough in_code inLimit (inr same) = (suc left, (omega arith, omega arith))
+    fewer turns zero state after enough in_code in_limit (inl one) = absurd (omega arith)
+    fewer turns (suc left) state after enough in_code in_limit (inl one) = (left, (omega arith, omega arith))
+    fewer turns zero state after enough in_code in_limit (inr same) = absurd (omega arith)
+    fewer turns (suc left) state after enough in_code in_limit (inr same) = (suc left, (omega arith, omega arith))
 
     ends : (turns left : ℕ) (state : State S) → Reaches rule given start state → Enough turns left state → Ends turns state
     ends zero left state reached enough = absurd (omega arith)
@@ -104,7 +104,7 @@ module _ {S : Type 0} (rule : Rule S) (given : Given) where
               reason = reason;
               reached = reached;
               stopping = e;
-              outcome = turn-stop rule given turns state reason e;
+              outcome = turn_stop rule given turns state reason e;
               limited = omega arith;
             }
         go later (next after) e f =
@@ -121,11 +121,11 @@ module _ {S : Type 0} (rule : Rule S) (given : Given) where
             }
 
   -- every run stops, at a state with at most as many steps as the limit
-  pub run-stops : (own : S) → Stops rule given own
+  pub run_stops : (own : S) → Stops rule given own
   unfolding runs
-  run-stops own =
-      let end : Ends (startState own) (turnsFor rule given) (startState own) =
-      ends (startState own) (turnsFor rule given) given.limit (startState own) Reaches.here (omega arith, omega arith) in
+  run_stops own =
+      let end : Ends (start_state own) (turns_for rule given) (start_state own) =
+      ends (start_state own) (turns_for rule given) given.limit (start_state own) Reaches.here (omega arith, omega arith) in
       record {
         state = end.final;
         reason = end.reason;
@@ -156,7 +156,7 @@ module _ {S : Type 0} (rule : Rule S) (given : Given) where
       on : (state ≡ t) ⊎ ((first : State S) × (step rule given state ≡ next first) × Reaches rule given first t)
           → Reaches rule given after t ⊎ Reaches rule given t after
       on (inl same) = inr (subst (λ x. Reaches rule given x after) same (Reaches.more Reaches.here e))
-      on (inr (first, e', way'')) = inl (subst (λ x. Reaches rule given x t) (next-same (sym e' ∙ e)) way'')
+      on (inr (first, e', way'')) = inl (subst (λ x. Reaches rule given x t) (next_same (sym e' ∙ e)) way'')
 
       back : Reaches rule given state t ⊎ Reaches rule given t state → Reaches rule given after t ⊎ Reaches rule given t after
       back (inl way'') = on (peel way'')
@@ -168,12 +168,12 @@ module _ {S : Type 0} (rule : Rule S) (given : Given) where
     where
       go : (start ≡ state) ⊎ ((after : State S) × (step rule given start ≡ next after) × Reaches rule given after state) → start ≡ state
       go (inl same) = same
-      go (inr (after, e', way')) = absurd (stop-not-next (sym e ∙ e'))
+      go (inr (after, e', way')) = absurd (stop_not_next (sym e ∙ e'))
 
   -- a run has one end: one state, one reason
   pub one_end : {start s t : State S} {x y : Reason} → Reaches rule given start s → step rule given s ≡ stop x
       → Reaches rule given start t → step rule given t ≡ stop y → (s ≡ t) × (x ≡ y)
-  one_end {s = s} {t = t} {x = x} {y = y} way e way' e' = (same, stop-same (sym e ∙ ap (step rule given) same ∙ e'))
+  one_end {s = s} {t = t} {x = x} {y = y} way e way' e' = (same, stop_same (sym e ∙ ap (step rule given) same ∙ e'))
     where
       meet : Reaches rule given s t ⊎ Reaches rule given t s → s ≡ t
       meet (inl on) = stuck e on
@@ -183,16 +183,16 @@ module _ {S : Type 0} (rule : Rule S) (given : Given) where
       same = meet (one_line way way')
 
   -- what a run comes to where it is seen to stop
-  pub run_is : (own : S) {state : State S} {reason : Reason} → Reaches rule given (startState own) state
+  pub run_is : (own : S) {state : State S} {reason : Reason} → Reaches rule given (start_state own) state
       → step rule given state ≡ stop reason → runs rule given own ≡ stopped rule given state reason
   run_is own way e =
-      let end : Stops rule given own = run-stops own in
+      let end : Stops rule given own = run_stops own in
       let one : (end.state ≡ _) × (end.reason ≡ _) = one_end end.reached end.stopping way e in
       end.outcome ∙ ap₂ (stopped rule given) one.0 one.1
 
 -- two ends of one run are one
-pub stops-once : StopsOnce
-stops-once S rule given own a b = one_end rule given a.reached a.stopping b.reached b.stopping
+pub stops_once : StopsOnce
+stops_once S rule given own a b = one_end rule given a.reached a.stopping b.reached b.stopping
 
-pub every-run-stops : EveryRunStops
-every-run-stops p given = (run-stops (tableRule p) given (firstTable p), run-stops (plainRule p) given [])
+pub every_run_stops : EveryRunStops
+every_run_stops p given = (run_stops (table_rule p) given (first_table p), run_stops (plain_rule p) given [])

@@ -5,71 +5,71 @@ use mathlib.Core.Path.{◌≡◌, refl, ap, ◌∙◌}
 use mathlib.Core.List.{List, [], ◌∷◌, ◌++◌}
 use mathlib.Core.Bool.{Bool, true, false}
 use lib.ListN.{length, get_or, take, drop}
-use Rattle.numbers.specs.Number.{readGroups, groups}
+use Rattle.numbers.specs.Number.{read_groups, groups}
 use Rattle.files.specs.Program.{Program}
-use Rattle.files.specs.Reading.{whole, refusal, follow, many, membersPlan, readFile}
-use Rattle.files.specs.Writing.{spellFile, spellAll}
-use Rattle.safety.specs.Unsafe.{setsIn}
-use Rattle.coloring.specs.Class.{holds, some, meets, join, classesOf}
-use Rattle.coloring.specs.Color.{lowestFrom, classesBelow, colorOf}
+use Rattle.files.specs.Reading.{whole, refusal, follow, many, members_plan, read_file}
+use Rattle.files.specs.Writing.{spell_file, spell_all}
+use Rattle.safety.specs.Unsafe.{sets_in}
+use Rattle.coloring.specs.Class.{holds, some, meets, join, classes_of}
+use Rattle.coloring.specs.Color.{lowest_from, classes_below, color_of}
 use Rattle.coloring.specs.Colored.{tinted}
 use Rattle.layout.specs.Layout.{total, start_of, fits, pieces_of}
-use Rattle.routines.specs.Accepted.{plainPiecesFrom}
-use Rattle.instrumenter.specs.Instrumented.{guarded, span_of, newPlace, instrumented}
+use Rattle.routines.specs.Accepted.{plain_pieces_from}
+use Rattle.instrumenter.specs.Instrumented.{guarded, span_of, new_place, instrumented}
 use Rattle.instrumenter.specs.Answer.{instrument}
-use Rattle.memory.specs.Memory.{bytes_of, number_at, put, fill, colorAt, everyByte}
-use Rattle.heap.specs.Heap.{walk, block_at, putHeader, sound, walkFrom, takeBlock, firstFit, alloc, freeIn, free, emptyHeap}
-use Rattle.stops.specs.Stop.{placesIn}
+use Rattle.memory.specs.Memory.{bytes_of, number_at, put, fill, color_at, every_byte}
+use Rattle.heap.specs.Heap.{walk, block_at, put_header, sound, walk_from, take_block, first_fit, alloc, free_in, free, empty_heap}
+use Rattle.stops.specs.Stop.{places_in}
 use Rattle.machine.specs.Step.{step}
 use Rattle.machine.specs.Runs.{Outcome, run_from, runs}
-use Rattle.start.specs.First.{blankMemory, paintGlobals, blankTable, firstTable}
-use Rattle.machine.specs.Colors.{tableRule}
-use Rattle.machine.specs.Running.{refuse, runProgram, runReading, runFile}
-use Rattle.proved_set.specs.Examples.{versionTwo, zeros, run_of, numbersOut, firstBlock, heapOf, fourBlocks, bothFreed, fourBodies, heapAfter, ProvedSet}
+use Rattle.start.specs.First.{blank_memory, paint_globals, blank_table, first_table}
+use Rattle.machine.specs.Colors.{table_rule}
+use Rattle.machine.specs.Running.{refuse, run_program, run_reading, run_file}
+use Rattle.proved_set.specs.Examples.{version_two, zeros, run_of, numbers_out, first_block, heap_of, four_blocks, both_freed, four_bodies, heap_after, ProvedSet}
 
 -- ---- all rows but 9 and 10
 
-given-nine-and-ten : fourBodies ≡ 28680 ∷ 28696 ∷ 28720 ∷ 28680 ∷ [] → heapAfter 2 3 ≡ 28672 ∷ 28656 ∷ 0 ∷ 0 ∷ [] → heapAfter 3 2 ≡ 28672 ∷ 28656 ∷ 0 ∷ 0 ∷ [] → ProvedSet
-unfolding readGroups groups readFile follow many membersPlan spellFile spellAll setsIn holds some meets join classesOf lowestFrom classesBelow colorOf tinted plainPiecesFrom total start_of guarded span_of newPlace instrumented instrument bytes_of number_at put fill colorAt everyByte putHeader emptyHeap placesIn blankMemory step run_from runs tableRule paintGlobals blankTable firstTable runFile
-given-nine-and-ten nine ten ten' =
+given_nine_and_ten : four_bodies ≡ 28680 ∷ 28696 ∷ 28720 ∷ 28680 ∷ [] → heap_after 2 3 ≡ 28672 ∷ 28656 ∷ 0 ∷ 0 ∷ [] → heap_after 3 2 ≡ 28672 ∷ 28656 ∷ 0 ∷ 0 ∷ [] → ProvedSet
+unfolding read_groups groups read_file follow many members_plan spell_file spell_all sets_in holds some meets join classes_of lowest_from classes_below color_of tinted plain_pieces_from total start_of guarded span_of new_place instrumented instrument bytes_of number_at put fill color_at every_byte put_header empty_heap places_in blank_memory step run_from runs table_rule paint_globals blank_table first_table run_file
+given_nine_and_ten nine ten ten' =
     (refl, (refl, (refl, (refl, (refl, (refl, (refl, (refl, (refl, (refl, (refl, (refl, (refl, (refl, (refl, (nine, (ten, (ten', (refl, (refl, (refl, (refl, tt))))))))))))))))))))))
 
 -- ---- rows 9 and 10
 
 -- the outcome of a program
 outcome : Program → Outcome (List ℕ)
-outcome p = runs (tableRule p) (record { input = []; room = 1000; limit = 100 }) (firstTable p)
+outcome p = runs (table_rule p) (record { input = []; room = 1000; limit = 100 }) (first_table p)
 
 -- the run of a file is the outcome of the program that stands in its version 2
-run-read : (bytes : List ℕ) (p : Program) → readFile 2 (versionTwo bytes) ≡ whole p → fits (pieces_of p.objects) ≡ true → run_of bytes 100 ≡ runProgram [] 100 zeros p
-unfolding runFile
-run-read bytes p e f =
-    ap (runReading [] 100 zeros) e
-    ∙ ap (λ (b : Bool). elim b [ true ↦ runProgram [] 100 zeros p | false ↦ refuse zeros (refusal 9 0) ]) f
+run_read : (bytes : List ℕ) (p : Program) → read_file 2 (version_two bytes) ≡ whole p → fits (pieces_of p.objects) ≡ true → run_of bytes 100 ≡ run_program [] 100 zeros p
+unfolding run_file
+run_read bytes p e f =
+    ap (run_reading [] 100 zeros) e
+    ∙ ap (λ (b : Bool). elim b [ true ↦ run_program [] 100 zeros p | false ↦ refuse zeros (refusal 9 0) ]) f
 
 -- how many numbers were put out, and the numbers
-putOut : Outcome (List ℕ) → List ℕ
-putOut o = o.run.out ∷ o.outs
+put_out : Outcome (List ℕ) → List ℕ
+put_out o = o.run.out ∷ o.outs
 
-row-nine : readFile 2 (versionTwo (spellFile 1 fourBlocks)) ≡ whole fourBlocks → putOut (outcome fourBlocks) ≡ 4 ∷ 28680 ∷ 28696 ∷ 28720 ∷ 28680 ∷ [] → fourBodies ≡ 28680 ∷ 28696 ∷ 28720 ∷ 28680 ∷ []
-unfolding outcome putOut fourBodies total
-row-nine e o =
-    ap numbersOut (run-read (spellFile 1 fourBlocks) fourBlocks e refl)
+row_nine : read_file 2 (version_two (spell_file 1 four_blocks)) ≡ whole four_blocks → put_out (outcome four_blocks) ≡ 4 ∷ 28680 ∷ 28696 ∷ 28720 ∷ 28680 ∷ [] → four_bodies ≡ 28680 ∷ 28696 ∷ 28720 ∷ 28680 ∷ []
+unfolding outcome put_out four_bodies total
+row_nine e o =
+    ap numbers_out (run_read (spell_file 1 four_blocks) four_blocks e refl)
     ∙ ap (λ (l : List ℕ). take (get_or l 0 0) (drop 1 l ++ drop (length (drop 1 l)) zeros.room)) o
 
-row-ten : (first second : ℕ) {l : List ℕ} → readFile 2 (versionTwo (spellFile 1 (bothFreed first second))) ≡ whole (bothFreed first second) → firstBlock (walk (outcome (bothFreed first second)).memory) ≡ l → heapAfter first second ≡ l
-unfolding outcome heapAfter total
-row-ten first second e o =
-    ap heapOf (run-read (spellFile 1 (bothFreed first second)) (bothFreed first second) e refl) ∙ o
+row_ten : (first second : ℕ) {l : List ℕ} → read_file 2 (version_two (spell_file 1 (both_freed first second))) ≡ whole (both_freed first second) → first_block (walk (outcome (both_freed first second)).memory) ≡ l → heap_after first second ≡ l
+unfolding outcome heap_after total
+row_ten first second e o =
+    ap heap_of (run_read (spell_file 1 (both_freed first second)) (both_freed first second) e refl) ∙ o
 
-given-ten : heapAfter 2 3 ≡ 28672 ∷ 28656 ∷ 0 ∷ 0 ∷ [] → heapAfter 3 2 ≡ 28672 ∷ 28656 ∷ 0 ∷ 0 ∷ [] → ProvedSet
-unfolding outcome putOut readGroups groups readFile follow many membersPlan spellFile spellAll setsIn holds some meets join classesOf lowestFrom classesBelow colorOf tinted plainPiecesFrom total start_of guarded span_of newPlace instrumented instrument bytes_of number_at put fill colorAt everyByte putHeader emptyHeap block_at sound walkFrom takeBlock firstFit alloc freeIn free placesIn blankMemory step run_from runs tableRule paintGlobals blankTable firstTable
-given-ten = given-nine-and-ten (row-nine refl refl)
+given_ten : heap_after 2 3 ≡ 28672 ∷ 28656 ∷ 0 ∷ 0 ∷ [] → heap_after 3 2 ≡ 28672 ∷ 28656 ∷ 0 ∷ 0 ∷ [] → ProvedSet
+unfolding outcome put_out read_groups groups read_file follow many members_plan spell_file spell_all sets_in holds some meets join classes_of lowest_from classes_below color_of tinted plain_pieces_from total start_of guarded span_of new_place instrumented instrument bytes_of number_at put fill color_at every_byte put_header empty_heap block_at sound walk_from take_block first_fit alloc free_in free places_in blank_memory step run_from runs table_rule paint_globals blank_table first_table
+given_ten = given_nine_and_ten (row_nine refl refl)
 
-given-last : heapAfter 3 2 ≡ 28672 ∷ 28656 ∷ 0 ∷ 0 ∷ [] → ProvedSet
-unfolding outcome readGroups groups readFile follow many membersPlan spellFile spellAll setsIn holds some meets join classesOf lowestFrom classesBelow colorOf tinted plainPiecesFrom total start_of guarded span_of newPlace instrumented instrument bytes_of number_at put fill colorAt everyByte putHeader emptyHeap block_at sound walkFrom takeBlock firstFit alloc freeIn free placesIn blankMemory step run_from runs tableRule paintGlobals blankTable firstTable
-given-last = given-ten (row-ten 2 3 refl refl)
+given_last : heap_after 3 2 ≡ 28672 ∷ 28656 ∷ 0 ∷ 0 ∷ [] → ProvedSet
+unfolding outcome read_groups groups read_file follow many members_plan spell_file spell_all sets_in holds some meets join classes_of lowest_from classes_below color_of tinted plain_pieces_from total start_of guarded span_of new_place instrumented instrument bytes_of number_at put fill color_at every_byte put_header empty_heap block_at sound walk_from take_block first_fit alloc free_in free places_in blank_memory step run_from runs table_rule paint_globals blank_table first_table
+given_last = given_ten (row_ten 2 3 refl refl)
 
-pub proved-set : ProvedSet
-unfolding outcome readGroups groups readFile follow many membersPlan spellFile spellAll setsIn holds some meets join classesOf lowestFrom classesBelow colorOf tinted plainPiecesFrom total start_of guarded span_of newPlace instrumented instrument bytes_of number_at put fill colorAt everyByte putHeader emptyHeap block_at sound walkFrom takeBlock firstFit alloc freeIn free placesIn blankMemory step run_from runs tableRule paintGlobals blankTable firstTable
-proved-set = given-last (row-ten 3 2 refl refl)
+pub proved_set : ProvedSet
+unfolding outcome read_groups groups read_file follow many members_plan spell_file spell_all sets_in holds some meets join classes_of lowest_from classes_below color_of tinted plain_pieces_from total start_of guarded span_of new_place instrumented instrument bytes_of number_at put fill color_at every_byte put_header empty_heap block_at sound walk_from take_block first_fit alloc free_in free places_in blank_memory step run_from runs table_rule paint_globals blank_table first_table
+proved_set = given_last (row_ten 3 2 refl refl)

@@ -1,3 +1,3 @@
--- Promises nothing to other crates. `Examples.proved-set` holds the definitions of every layer to the
+-- Promises nothing to other crates. `Examples.proved_set` holds the definitions of every layer to the
 -- checked examples 1 to 12: each row of the table in specs/Examples.antt, by computation.
 pub mod Examples

@@ -4,7 +4,7 @@
 // `read_at`, which every reader of files calls, has plain parameters. Nothing here asks anything of its
 // caller.
 ghost use Rattle.std.specs.Prelude.{◌≡◌};
-ghost use Rattle.numbers.specs.Number.{readNumber};
+ghost use Rattle.numbers.specs.Number.{read_number};
 
 use numbers::{Cursor, Read, read_number};
 
@@ -17,7 +17,7 @@ pub struct Reader<'a> {
 
 // The number at a place.
 fn number_from(file: &[u8], at: usize) -> Read
-    ensures { result ≡ readNumber file.now at }
+    ensures { result ≡ read_number file.now at }
 {
     read_number(file, Cursor { at })
 }
@@ -41,7 +41,7 @@ pub fn after<'a>(r: Reader<'a>, read: Cursor) -> Reader<'a>
 
 // The next number; `after` gives the reader behind it.
 pub fn number<'a>(r: Reader<'a>) -> Read
-    ensures { result ≡ readNumber r.entry.file.now r.entry.at }
+    ensures { result ≡ read_number r.entry.file.now r.entry.at }
 {
     number_from(r.file, r.at)
 }
@@ -49,7 +49,7 @@ pub fn number<'a>(r: Reader<'a>) -> Read
 // The number at a cursor of a file, read through a reader. It promises what `numbers::read_number` does, to
 // callers that hold no reader.
 pub fn read_at(file: &[u8], from: Cursor) -> Read
-    ensures { result ≡ readNumber file.now from.at }
+    ensures { result ≡ read_number file.now from.at }
 {
     number(after(open(file), from))
 }

@@ -15,62 +15,62 @@ use lib.Dec.{ltb, leb}
 use borrow.Author.Tests.{lt-ltb, le-ltb}
 use Rattle.numbers.specs.declared.Cursor.{Cursor}
 use Rattle.numbers.specs.declared.Read.{Read}
-use Rattle.numbers.specs.Number.{spell, width, readGroups, readNumber, endsEarly, badNumber, largest, shortest}
-use Rattle.numbers.proofs.Laws.{read-bounds, one-spelling, reads-back}
+use Rattle.numbers.specs.Number.{spell, width, read_groups, read_number, ends_early, bad_number, largest, shortest}
+use Rattle.numbers.proofs.Laws.{read_bounds, one_spelling, reads_back}
 use Rattle.refusals.specs.Why.{Begins, NoNumberBegins, part}
-use Rattle.refusals.proofs.Agreeing.{begins-behind, Agrees, agrees-itself, agrees-more, agrees-begun, agrees-earlier, agrees-byte}
+use Rattle.refusals.proofs.Agreeing.{begins_behind, Agrees, agrees_itself, agrees_more, agrees_begun, agrees_earlier, agrees_byte}
 
 -- how the number at a place is read: it is a number; or the file ends inside the beginning of one; or its
 -- bytes up to an end are the beginning of none, and every file with the same bytes up to there is refused
 pub data Told (file : List ℕ) (first : ℕ) : Type 0 where
-  fine : (n : ℕ) (c : Cursor) → readNumber file first ≡ Read.Number n c → Told file first
+  fine : (n : ℕ) (c : Cursor) → read_number file first ≡ Read.Number n c → Told file first
   early : (n : ℕ) → n ≤ 4294967295 → Begins (drop first file) (spell n) → length file < first + width n
-      → readNumber file first ≡ endsEarly file → Told file first
+      → read_number file first ≡ ends_early file → Told file first
   bad : (end : ℕ) → first < end → end ≤ length file
-      → ((other : List ℕ) → Agrees end file other → readNumber other first ≡ badNumber first) → Told file first
+      → ((other : List ℕ) → Agrees end file other → read_number other first ≡ bad_number first) → Told file first
 
 -- a turn of the reading at a byte: whether it may stand there, ends the number, and is shortest
 abbrev turn : (left : ℕ) → List ℕ → (first i value byte : ℕ) → (allowed final short : Bool) → Read
 turn left l first i value byte allowed final short =
     elim allowed [
-      | false ↦ badNumber first
+      | false ↦ bad_number first
       | true ↦
           elim final [
-            | false ↦ readGroups left l first (i + 1) (value + byte % 128 * 2 ^ (7 * i))
+            | false ↦ read_groups left l first (i + 1) (value + byte % 128 * 2 ^ (7 * i))
             | true ↦
                 elim short [
-                  | false ↦ badNumber first
+                  | false ↦ bad_number first
                   | true ↦ Read.Number (value + byte * 2 ^ (7 * i)) (record { at = first + i + 1 })
                 ]
           ]
     ]
 
 -- the same, with the three tests made
-abbrev turnAt : (left : ℕ) → List ℕ → (first i value byte : ℕ) → Read
-turnAt left l first i value byte = turn left l first i value byte (leb byte (largest i)) (ltb byte 128) (shortest i byte)
+abbrev turn_at : (left : ℕ) → List ℕ → (first i value byte : ℕ) → Read
+turn_at left l first i value byte = turn left l first i value byte (leb byte (largest i)) (ltb byte 128) (shortest i byte)
 
 module _ (left first i value : ℕ) where
   -- behind the file, and at a byte of it
-  past : (l : List ℕ) → length l ≤ first + i → readGroups (suc left) l first i value ≡ endsEarly l
-  unfolding readGroups
-  past l out = rw (le-ltb _ _ out, readGroups)
+  past : (l : List ℕ) → length l ≤ first + i → read_groups (suc left) l first i value ≡ ends_early l
+  unfolding read_groups
+  past l out = rw (le-ltb _ _ out, read_groups)
 
   turned : (l : List ℕ) (byte : ℕ) → first + i < length l → get_or l (first + i) 0 ≡ byte
-      → readGroups (suc left) l first i value ≡ turnAt left l first i value byte
-  unfolding readGroups
+      → read_groups (suc left) l first i value ≡ turn_at left l first i value byte
+  unfolding read_groups
   turned l byte inside is =
-      let here : readGroups (suc left) l first i value ≡ turnAt left l first i value (get_or l (first + i) 0) = rw (lt-ltb _ _ inside, readGroups) in
-      here ∙ ap (turnAt left l first i value) is
+      let here : read_groups (suc left) l first i value ≡ turn_at left l first i value (get_or l (first + i) 0) = rw (lt-ltb _ _ inside, read_groups) in
+      here ∙ ap (turn_at left l first i value) is
 
 -- 1 may stand as any group
-one-allowed : (below : Bool) → leb 1 (elim below [ true ↦ 255 | false ↦ 15 ]) ≡ true
-one-allowed true = refl
-one-allowed false = refl
+one_allowed : (below : Bool) → leb 1 (elim below [ true ↦ 255 | false ↦ 15 ]) ≡ true
+one_allowed true = refl
+one_allowed false = refl
 
 module _ (file : List ℕ) (first : ℕ) where
   -- i groups are read; in every file with these groups what is left to read answers what the whole does
   abbrev Rests : (left i value : ℕ) → Type 0
-  Rests left i value = (other : List ℕ) → Agrees (first + i) file other → readNumber other first ≡ readGroups left other first i value
+  Rests left i value = (other : List ℕ) → Agrees (first + i) file other → read_number other first ≡ read_groups left other first i value
 
   -- a file that ends after i groups: with 1 behind them it has a number there
   begun : (left i value : ℕ) → i < 5 → length file ≡ first + i → Rests (suc left) i value → Told file first
@@ -81,17 +81,17 @@ module _ (file : List ℕ) (first : ℕ) where
       let one : get_or longer (first + i) 0 ≡ 1 =
       ap (λ (k : ℕ). get_or longer k 0) (sym seam) ∙ sym (get_or-drop (length file) longer 0 0)
       ∙ ap (λ (l : List ℕ). get_or l 0 0) (drop-append_seam file (1 ∷ [])) in
-      let read : readNumber longer first ≡ Read.Number (value + 1 * 2 ^ (7 * i)) (record { at = first + i + 1 }) =
-      rests longer (agrees-more file (omega arith) (1 ∷ [])) ∙ turned left first i value longer 1 (omega arith) one
-      ∙ ap (λ (t : Bool). turn left longer first i value 1 t true true) (one-allowed (ltb i 4)) in
-      let (behind, inside, small, wide) = read-bounds longer first read in
+      let read : read_number longer first ≡ Read.Number (value + 1 * 2 ^ (7 * i)) (record { at = first + i + 1 }) =
+      rests longer (agrees_more file (omega arith) (1 ∷ [])) ∙ turned left first i value longer 1 (omega arith) one
+      ∙ ap (λ (t : Bool). turn left longer first i value 1 t true true) (one_allowed (ltb i 4)) in
+      let (behind, inside, small, wide) = read_bounds longer first read in
       let n : ℕ = value + 1 * 2 ^ (7 * i) in
       let spelled : spell n ≡ drop first file ++ 1 ∷ [] =
-      sym (one-spelling longer first read) ∙ take_all (width n) (drop first longer) (omega (arith, length-drop first longer))
+      sym (one_spelling longer first read) ∙ take_all (width n) (drop first longer) (omega (arith, length-drop first longer))
       ∙ drop-append-le first file (1 ∷ []) (omega arith) in
       early n (omega arith) (ap (take (length (drop first file))) spelled ∙ take-append_seam (drop first file) (1 ∷ []))
       (omega arith)
-      (rests file (agrees-itself file (omega arith)) ∙ past left first i value file (omega arith))
+      (rests file (agrees_itself file (omega arith)) ∙ past left first i value file (omega arith))
 
   -- a turn inside the file: `more` is what follows where another group comes
   inside : (left i value : ℕ) → first + i < length file → Rests (suc left) i value
@@ -102,23 +102,23 @@ module _ (file : List ℕ) (first : ℕ) where
       byte : ℕ
       byte = get_or file (first + i) 0
 
-      same : (other : List ℕ) → Agrees (first + i + 1) file other → readNumber other first ≡ turnAt left other first i value byte
+      same : (other : List ℕ) → Agrees (first + i + 1) file other → read_number other first ≡ turn_at left other first i value byte
       same other agrees =
-          rests other (agrees-earlier agrees (first + i) (omega arith))
-          ∙ turned left first i value other byte (omega (arith, agrees.long)) (agrees-byte agrees (first + i) (omega arith))
+          rests other (agrees_earlier agrees (first + i) (omega arith))
+          ∙ turned left first i value other byte (omega (arith, agrees.long)) (agrees_byte agrees (first + i) (omega arith))
 
       go : (allowed final short : Bool)
-          → ((other : List ℕ) → Agrees (first + i + 1) file other → readNumber other first ≡ turn left other first i value byte allowed final short)
+          → ((other : List ℕ) → Agrees (first + i + 1) file other → read_number other first ≡ turn left other first i value byte allowed final short)
           → Told file first
       go false final short told = bad (first + i + 1) (omega arith) (omega arith) told
       go true false short told =
-          more (λ other agrees. told other (agrees-earlier agrees (first + i + 1) (omega arith)))
+          more (λ other agrees. told other (agrees_earlier agrees (first + i + 1) (omega arith)))
       go true true false told = bad (first + i + 1) (omega arith) (omega arith) told
-      go true true true told = fine _ _ (told file (agrees-itself file (omega arith)))
+      go true true true told = fine _ _ (told file (agrees_itself file (omega arith)))
 
   -- by induction on the groups that may still come
   telling : (left i value : ℕ) → i + left ≡ 5 → first + i ≤ length file → Rests left i value → Told file first
-  unfolding readGroups
+  unfolding read_groups
   telling zero i value five within rests = bad (first + i) (omega arith) within rests
   telling (suc left) i value five within rests =
       elim (dec_lt (first + i) (length file)) [
@@ -131,18 +131,18 @@ module _ (file : List ℕ) (first : ℕ) where
   told within = telling 5 0 0 refl (omega arith) (λ other agrees. refl)
 
   -- where it is refused with 3, no number begins with the bytes up to the end
-  pub begins-none : (end : ℕ) → first < end → end ≤ length file
-      → ((other : List ℕ) → Agrees end file other → readNumber other first ≡ badNumber first) → NoNumberBegins (part file first end)
-  begins-none end some within refused n small begins =
+  pub begins_none : (end : ℕ) → first < end → end ≤ length file
+      → ((other : List ℕ) → Agrees end file other → read_number other first ≡ bad_number first) → NoNumberBegins (part file first end)
+  begins_none end some within refused n small begins =
       let before : List ℕ = take first file in
       let other : List ℕ = before ++ spell n ++ [] in
       let cut : take end file ≡ before ++ part file first end =
       sym (take-append-drop first (take end file)) ∙ ap (λ (l : List ℕ). l ++ part file first end) (take-take first end file (omega arith)) in
       let spelled : before ++ spell n ≡ other = sym (append-nil (before ++ spell n)) in
-      let begun : Begins (take end file) (before ++ spell n) = rw cut (begins-behind before (part file first end) (spell n) begins) in
-      let agrees : Agrees end file other = rw spelled at (agrees-begun file within (before ++ spell n) begun) in
+      let begun : Begins (take end file) (before ++ spell n) = rw cut (begins_behind before (part file first end) (spell n) begins) in
+      let agrees : Agrees end file other = rw spelled at (agrees_begun file within (before ++ spell n) begun) in
       let at : length before ≡ first = length-take-le first file (omega arith) in
-      let read = rw at at (reads-back before [] n (omega arith)) in
+      let read = rw at at (reads_back before [] n (omega arith)) in
       let answer = refused other agrees in
       let z : ◌≡◌ {A = ℕ} 0 1 = cc in
       omega arith

@@ -4,8 +4,8 @@ use Rattle.std.specs.Prelude.{ℕ, ◌+◌, ◌^◌, ◌≤◌, ◌<◌, ◌≡�
 use Rattle.numbers.specs.declared.Refusal.{Refusal}
 use Rattle.numbers.specs.Number.{spell, width}
 use Rattle.files.specs.Program.{Program, longest}
-use Rattle.files.specs.Reading.{Reading, refusal, readFile}
-use Rattle.files.specs.Writing.{goodProgram, spellFile, Says}
+use Rattle.files.specs.Reading.{Reading, refusal, read_file}
+use Rattle.files.specs.Writing.{good_program, spell_file, Says}
 
 -- a list begins with these bytes
 abbrev pub Begins : (bytes list : List ℕ) → Type 0
@@ -13,7 +13,7 @@ Begins bytes list = take (length bytes) list ≡ bytes
 
 -- no good file begins with these bytes
 abbrev pub NoneBegins : (version : ℕ) (bytes : List ℕ) → Type 0
-NoneBegins version bytes = (p : Program) → goodProgram version p ≡ true → Begins bytes (spellFile version p) → ⊥
+NoneBegins version bytes = (p : Program) → good_program version p ≡ true → Begins bytes (spell_file version p) → ⊥
 
 -- no number begins with these bytes
 abbrev pub NoNumberBegins : (bytes : List ℕ) → Type 0
@@ -26,24 +26,24 @@ part file place end = drop place (take end file)
 -- a refusal of a file that is read as a version, and its reason
 pub data Why (version : ℕ) (file : List ℕ) : Refusal → Type 0 where
   -- "1 | file too long | 0"
-  tooLong : longest version < length file → Why version file (refusal 1 0)
+  too_long : longest version < length file → Why version file (refusal 1 0)
   -- "2 | file ends early | its length": it ends inside a number, or where one should begin; every good
   -- file that begins with these bytes is longer
   early : (at n : ℕ) → at ≤ length file → n ≤ 4294967295 → Begins (drop at file) (spell n) → length file < at + width n
-      → ((p : Program) → goodProgram version p ≡ true → Begins file (spellFile version p) → length file < length (spellFile version p))
+      → ((p : Program) → good_program version p ≡ true → Begins file (spell_file version p) → length file < length (spell_file version p))
       → Why version file (refusal 2 (length file))
   -- "3 | number not shortest or above 32 bits | its first byte": no number begins with the bytes from the
   -- place to an end, and no good file with those up to that end
-  noNumber : (place end : ℕ) → place < end → end ≤ length file
+  not_a_number : (place end : ℕ) → place < end → end ≤ length file
       → NoNumberBegins (part file place end) → NoneBegins version (take end file)
       → Why version file (refusal 3 place)
   -- "4 | version | its first byte": another number stands there
-  otherVersion : (n : ℕ) → width n ≤ length file → take (width n) file ≡ spell n → (n ≡ version → ⊥)
+  other_version : (n : ℕ) → width n ≤ length file → take (width n) file ≡ spell n → (n ≡ version → ⊥)
       → NoneBegins version (take (width n) file)
       → Why version file (refusal 4 0)
   -- "5, 6 | count; any other field out of its range or order | its first byte": a number stands at the
   -- place, and no good file begins with the bytes up to its end
-  badField : (number place n : ℕ) → 5 ≤ number → number ≤ 6 → place + width n ≤ length file
+  bad_field : (number place n : ℕ) → 5 ≤ number → number ≤ 6 → place + width n ≤ length file
       → part file place (place + width n) ≡ spell n → NoneBegins version (take (place + width n) file)
       → Why version file (refusal number place)
   -- "7 | bytes after the last instruction | the first of them": the bytes before it are a good file
@@ -52,7 +52,7 @@ pub data Why (version : ℕ) (file : List ℕ) : Refusal → Type 0 where
 -- a file that is not read has one of these reasons; a version is a number of a file, so it has 32 bits
 abbrev pub RefusedWhy : Type 0
 RefusedWhy =
-    (version : ℕ) → version < 2 ^ 32 → (file : List ℕ) (q : Refusal) → readFile version file ≡ Reading.refused q → Why version file q
+    (version : ℕ) → version < 2 ^ 32 → (file : List ℕ) (q : Refusal) → read_file version file ≡ Reading.refused q → Why version file q
 
 -- a refusal's number and place, as 01 lists them: 1 at 0, 2 at the file's length, 3 to 7 at a byte of it
 pub record Listed (file : List ℕ) (q : Refusal) : Type 0 where

@@ -2,26 +2,26 @@
 use mathlib.Core.Path.{◌≡◌, ap, ◌∙◌}
 use mathlib.Core.Bool.{Bool, true, false}
 use Rattle.files.specs.Program.{Program}
-use Rattle.files.specs.Reading.{Reading, whole, refusal, onWhole}
-use Rattle.coloring.specs.Colored.{fewClasses}
-use Rattle.routines.specs.Accepted.{globalsFit, laidOut, accepted, Accepted}
+use Rattle.files.specs.Reading.{Reading, whole, refusal, on_whole}
+use Rattle.coloring.specs.Colored.{few_classes}
+use Rattle.routines.specs.Accepted.{globals_fit, laid_out, accepted, Accepted}
 
 module _ (p : Program) where
-  by-classes : {b : Bool} → fewClasses p ≡ b → accepted (whole p) ≡ onWhole laidOut (elim b [ true ↦ whole p | false ↦ Reading.refused (refusal 8 0) ])
-  by-classes c = ap (λ (b : Bool). onWhole laidOut (elim b [ true ↦ whole p | false ↦ Reading.refused (refusal 8 0) ])) c
+  by_classes : {b : Bool} → few_classes p ≡ b → accepted (whole p) ≡ on_whole laid_out (elim b [ true ↦ whole p | false ↦ Reading.refused (refusal 8 0) ])
+  by_classes c = ap (λ (b : Bool). on_whole laid_out (elim b [ true ↦ whole p | false ↦ Reading.refused (refusal 8 0) ])) c
 
-  by-globals : {b : Bool} → globalsFit p ≡ b → laidOut p ≡ elim b [ true ↦ whole p | false ↦ Reading.refused (refusal 9 0) ]
-  by-globals f = ap (λ (b : Bool). elim b as (λ _. Reading) [ true ↦ whole p | false ↦ Reading.refused (refusal 9 0) ]) f
+  by_globals : {b : Bool} → globals_fit p ≡ b → laid_out p ≡ elim b [ true ↦ whole p | false ↦ Reading.refused (refusal 9 0) ]
+  by_globals f = ap (λ (b : Bool). elim b as (λ _. Reading) [ true ↦ whole p | false ↦ Reading.refused (refusal 9 0) ]) f
 
-  pub crowds : fewClasses p ≡ false → accepted (whole p) ≡ Reading.refused (refusal 8 0)
-  crowds c = by-classes c
+  pub crowds : few_classes p ≡ false → accepted (whole p) ≡ Reading.refused (refusal 8 0)
+  crowds c = by_classes c
 
-  pub overflows : fewClasses p ≡ true → globalsFit p ≡ false → accepted (whole p) ≡ Reading.refused (refusal 9 0)
-  overflows c f = by-classes c ∙ by-globals f
+  pub overflows : few_classes p ≡ true → globals_fit p ≡ false → accepted (whole p) ≡ Reading.refused (refusal 9 0)
+  overflows c f = by_classes c ∙ by_globals f
 
-  pub admits : fewClasses p ≡ true → globalsFit p ≡ true → accepted (whole p) ≡ whole p
-  admits c f = by-classes c ∙ by-globals f
+  pub admits : few_classes p ≡ true → globals_fit p ≡ true → accepted (whole p) ≡ whole p
+  admits c f = by_classes c ∙ by_globals f
 
   -- a routine that is called accepted is the answer
-  pub accepted-stays : Accepted p → accepted (whole p) ≡ whole p
-  accepted-stays a = admits a.classes a.fitting
+  pub accepted_stays : Accepted p → accepted (whole p) ≡ whole p
+  accepted_stays a = admits a.classes a.fitting

@@ -5,7 +5,7 @@
 ghost use Rattle.std.specs.Prelude.{◌≡◌, [], ◌∷◌};
 ghost use Rattle.opcodes.specs.Table.{make};
 ghost use Rattle.opcodes.specs.View.{view};
-ghost use Rattle.safety.specs.Nature.{putNature, natureOf, sizesIn};
+ghost use Rattle.safety.specs.Nature.{put_nature, nature_of, sizes_in};
 
 use instructions::parts_of;
 use opcodes::Instr;
@@ -28,7 +28,7 @@ pub enum Nature {
 // A PUT of `bytes` bytes at byte `k` of global `g`: safe where its last byte lies inside the size
 // rounded up to eight.
 fn put(g: u32, k: u32, bytes: u32, size: u16) -> Nature
-    ensures { result ≡ putNature size g k bytes }
+    ensures { result ≡ put_nature size g k bytes }
 {
     let extent = (size as u64 + 7) / 8 * 8;
     if k as u64 + bytes as u64 <= extent {
@@ -41,7 +41,7 @@ fn put(g: u32, k: u32, bytes: u32, size: u16) -> Nature
 // What the instruction with this opcode number and these operands is; `size` is the size of the
 // global that a PUT names.
 pub fn by_opcode(opcode: u32, x: u32, y: u32, z: u32, w: u32, size: u16) -> Nature
-    ensures { result ≡ natureOf (λ g. size) (view (make opcode (x ∷ y ∷ z ∷ w ∷ []))) }
+    ensures { result ≡ nature_of (λ g. size) (view (make opcode (x ∷ y ∷ z ∷ w ∷ []))) }
 {
     match opcode {
         8 => put(x, y, 1, size),
@@ -56,7 +56,7 @@ pub fn by_opcode(opcode: u32, x: u32, y: u32, z: u32, w: u32, size: u16) -> Natu
 
 // What an instruction is, over the sizes of the objects.
 pub fn nature_of(i: Instr, sizes: &[u16; 400]) -> Nature
-    ensures { result ≡ natureOf (sizesIn sizes.now) (view i) }
+    ensures { result ≡ nature_of (sizes_in sizes.now) (view i) }
 {
     let parts = parts_of(i);
     let g = parts.x as usize;

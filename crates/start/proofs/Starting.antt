@@ -1,7 +1,7 @@
 -- The table at the start, painted object by object from arrays, is the definition's first table.
 --
 -- The arrays hold each field of the objects, the first ones from the file and the others blank, so a
--- read at any index is the field of the object there (`getD-filled-map`). The start of a global is read off
+-- read at any index is the field of the object there (`get_d_filled_map`). The start of a global is read off
 -- the layout, and with the layout's end at or below 28,672 every global's slots lie in the table, so
 -- that painting what the table has is painting. `all_same` goes through the objects.
 use Prim.Native.Nat.{ℕ, zero, suc, ◌+◌, ◌-◌, ◌<◌, ◌≤◌}
@@ -16,87 +16,87 @@ use Rattle.files.specs.declared.Object.{Object}
 use Rattle.opcodes.specs.View.{extent}
 use Rattle.files.specs.Held.{filled}
 use Rattle.files.specs.Program.{Program}
-use Rattle.files.proofs.Filled.{getD-filled-map}
+use Rattle.files.proofs.Filled.{get_d_filled_map}
 use Rattle.layout.specs.declared.Layout.{Layout}
 use Rattle.layout.specs.Layout.{Piece, piece_of, pieces_of, start_of, end_of, fits}
-use Rattle.layout.specs.Arrays.{counted, piecesIn, layout_of}
-use Rattle.layout.proofs.Places.{ends-below}
-use Rattle.layout.proofs.Pieces.{start-held, pieces-held}
-use Rattle.memory.specs.Memory.{memorySize, tableSize, slot, paint}
-use Rattle.heap.specs.Heap.{heapStart, endSlot}
+use Rattle.layout.specs.Arrays.{counted, pieces_in, layout_of}
+use Rattle.layout.proofs.Places.{ends_below}
+use Rattle.layout.proofs.Pieces.{start_held, pieces_held}
+use Rattle.memory.specs.Memory.{memory_size, table_size, slot, paint}
+use Rattle.heap.specs.Heap.{heap_start, end_slot}
 use Rattle.memory.specs.Lent.{painted}
 use Rattle.heap.specs.Lent.{After, started}
-use Rattle.memory.proofs.Exact.{painted-exact}
-use Rattle.heap.proofs.Exact.{started-exact}
+use Rattle.memory.proofs.Exact.{painted_exact}
+use Rattle.heap.proofs.Exact.{started_exact}
 use Rattle.memory.proofs.Memory.{length-fill}
-use Rattle.start.specs.First.{blankMemory, firstMemory, paintGlobals, blankTable, firstTable}
-use Rattle.start.specs.Held.{paintOne, paintHeld, laidTable, laidStart}
+use Rattle.start.specs.First.{blank_memory, first_memory, paint_globals, blank_table, first_table}
+use Rattle.start.specs.Held.{paint_one, paint_held, laid_table, laid_start}
 use Rattle.start.specs.declared.Laid.{Laid}
 
 -- ---- as many as there are, and at most 400
 
-pub counted-most : (n : ℕ) → counted n ≤ 400
-counted-most n = go (leb n 400) refl
+pub counted_most : (n : ℕ) → counted n ≤ 400
+counted_most n = go (leb n 400) refl
   where
     go : (b : Bool) → leb n 400 ≡ b → elim b [ true ↦ n | false ↦ 400 ] ≤ 400
     go true e = leb-true _ _ e
     go false e = omega arith
 
-pub counted-there : (n : ℕ) → counted n ≤ n
-counted-there n = go (leb n 400) refl
+pub counted_there : (n : ℕ) → counted n ≤ n
+counted_there n = go (leb n 400) refl
   where
     go : (b : Bool) → leb n 400 ≡ b → elim b [ true ↦ n | false ↦ 400 ] ≤ n
     go true e = omega arith
     go false e = omega (arith, leb-false n 400 e)
 
-pub counted-below : (n g : ℕ) → g < 400 → g < n → g < counted n
-counted-below n g h k = go (leb n 400)
+pub counted_below : (n g : ℕ) → g < 400 → g < n → g < counted n
+counted_below n g h k = go (leb n 400)
   where
     go : (b : Bool) → g < elim b [ true ↦ n | false ↦ 400 ]
     go true = k
     go false = h
 
-counted-all : (n : ℕ) → n ≤ 400 → counted n ≡ n
-counted-all n h = rw (le-leb n 400 h, counted) refl
+counted_all : (n : ℕ) → n ≤ 400 → counted n ≡ n
+counted_all n h = rw (le-leb n 400 h, counted) refl
 
 -- ---- one object, and one more
 
 module _ (table : List ℕ) (kind start size color : ℕ) where
-  pub paints : {after : List ℕ} {x : ℕ} → kind ≡ 0 → x ≡ extent size → after ≡ painted table start x color → after ≡ paintOne table kind start size color
-  paints global read e = e ∙ ap (λ n. painted table start n color) read ∙ rw (eq-eqb kind 0 global, paintOne) refl
+  pub paints : {after : List ℕ} {x : ℕ} → kind ≡ 0 → x ≡ extent size → after ≡ painted table start x color → after ≡ paint_one table kind start size color
+  paints global read e = e ∙ ap (λ n. painted table start n color) read ∙ rw (eq-eqb kind 0 global, paint_one) refl
 
-  pub paints-not : (kind ≡ 0 → ⊥) → table ≡ paintOne table kind start size color
-  paints-not site = rw (ne_eqb kind 0 site, paintOne) refl
+  pub paints_not : (kind ≡ 0 → ⊥) → table ≡ paint_one table kind start size color
+  paints_not site = rw (ne_eqb kind 0 site, paint_one) refl
 
 module _ (starts kinds sizes colors : List ℕ) where
-  pub paint-next : (g objects : ℕ) (table after : List ℕ) {all : List ℕ} → g < objects
-      → paintHeld starts kinds sizes colors g (objects - g) table ≡ all
-      → after ≡ paintOne table (get_or kinds g 0) (get_or starts g 0) (get_or sizes g 0) (get_or colors g 0)
-      → paintHeld starts kinds sizes colors (g + 1) (objects - (g + 1)) after ≡ all
-  unfolding paintHeld
-  paint-next g objects table after h e f =
+  pub paint_next : (g objects : ℕ) (table after : List ℕ) {all : List ℕ} → g < objects
+      → paint_held starts kinds sizes colors g (objects - g) table ≡ all
+      → after ≡ paint_one table (get_or kinds g 0) (get_or starts g 0) (get_or sizes g 0) (get_or colors g 0)
+      → paint_held starts kinds sizes colors (g + 1) (objects - (g + 1)) after ≡ all
+  unfolding paint_held
+  paint_next g objects table after h e f =
       let left : objects - g ≡ suc (objects - (g + 1)) = omega arith in
-      ap (paintHeld starts kinds sizes colors (g + 1) (objects - (g + 1))) f
-      ∙ sym (ap (λ n. paintHeld starts kinds sizes colors g n table) left) ∙ e
+      ap (paint_held starts kinds sizes colors (g + 1) (objects - (g + 1))) f
+      ∙ sym (ap (λ n. paint_held starts kinds sizes colors g n table) left) ∙ e
 
-  pub paint-done : (g objects : ℕ) (table : List ℕ) {all : List ℕ} → objects ≤ g
-      → paintHeld starts kinds sizes colors g (objects - g) table ≡ all → table ≡ all
-  unfolding paintHeld
-  paint-done g objects table h e =
+  pub paint_done : (g objects : ℕ) (table : List ℕ) {all : List ℕ} → objects ≤ g
+      → paint_held starts kinds sizes colors g (objects - g) table ≡ all → table ≡ all
+  unfolding paint_held
+  paint_done g objects table h e =
       let none : objects - g ≡ 0 = omega arith in
-      sym (ap (λ n. paintHeld starts kinds sizes colors g n table) none) ∙ e
+      sym (ap (λ n. paint_held starts kinds sizes colors g n table) none) ∙ e
 
   -- the header's and the end slot's come last
-  pub lays : (objects : ℕ) (t₀ : List ℕ) {t₁ t₂ t₃ t₄ : List ℕ} → t₁ ≡ replicate (length t₀) 0 → t₂ ≡ paintHeld starts kinds sizes colors 0 (counted objects) t₁
-      → t₃ ≡ painted t₂ heapStart 8 1 → t₄ ≡ painted t₃ endSlot 8 1 → t₄ ≡ laidTable starts kinds sizes colors objects t₀
-  unfolding laidTable
+  pub lays : (objects : ℕ) (t₀ : List ℕ) {t₁ t₂ t₃ t₄ : List ℕ} → t₁ ≡ replicate (length t₀) 0 → t₂ ≡ paint_held starts kinds sizes colors 0 (counted objects) t₁
+      → t₃ ≡ painted t₂ heap_start 8 1 → t₄ ≡ painted t₃ end_slot 8 1 → t₄ ≡ laid_table starts kinds sizes colors objects t₀
+  unfolding laid_table
   lays objects t₀ e₁ e₂ e₃ e₄ =
-      e₄ ∙ ap (λ t. painted t endSlot 8 1) (e₃ ∙ ap (λ t. painted t heapStart 8 1) (e₂ ∙ ap (paintHeld starts kinds sizes colors 0 (counted objects)) e₁))
+      e₄ ∙ ap (λ t. painted t end_slot 8 1) (e₃ ∙ ap (λ t. painted t heap_start 8 1) (e₂ ∙ ap (paint_held starts kinds sizes colors 0 (counted objects)) e₁))
 
 -- ---- what the arrays hold
 
-abbrev pub noObject : Object
-noObject = record { kind = 0; size = 0; color = 0 }
+abbrev pub no_object : Object
+no_object = record { kind = 0; size = 0; color = 0 }
 
 pub length-paint : (table : List ℕ) (a n color : ℕ) → slot a + slot n ≤ length table → length (paint table a n color) ≡ length table
 length-paint table a n color h = length-fill table (slot a) (slot n) color h
@@ -119,61 +119,61 @@ module _ (os : List Object) (most : length os ≤ 400) (fit : end_of (pieces_of 
   pub start_is : (g : ℕ) → g < length os → get_or (layout_of (pieces_of os)).starts g 0 ≡ start_of (pieces_of os) g
   start_is g h =
       let long : length (pieces_of os) ≡ length os = length-map os piece_of in
-      start-held (pieces_of os) g (omega arith) (omega arith)
+      start_held (pieces_of os) g (omega arith) (omega arith)
 
   -- the slots of object g, painted where a test says so
-  abbrev paintBy : Bool → (g : ℕ) (table : List ℕ) → List ℕ
-  paintBy b g table = elim b [ true ↦ paint table (start_of (pieces_of os) g) (extent (get_or os g noObject).size) (get_or os g noObject).color | false ↦ table ]
+  abbrev paint_by : Bool → (g : ℕ) (table : List ℕ) → List ℕ
+  paint_by b g table = elim b [ true ↦ paint table (start_of (pieces_of os) g) (extent (get_or os g no_object).size) (get_or os g no_object).color | false ↦ table ]
 
-  abbrev paintedBy : Bool → (g : ℕ) (table : List ℕ) → List ℕ
-  paintedBy b g table = elim b [ true ↦ painted table (start_of (pieces_of os) g) (extent (get_or os g noObject).size) (get_or os g noObject).color | false ↦ table ]
+  abbrev painted_by : Bool → (g : ℕ) (table : List ℕ) → List ℕ
+  painted_by b g table = elim b [ true ↦ painted table (start_of (pieces_of os) g) (extent (get_or os g no_object).size) (get_or os g no_object).color | false ↦ table ]
 
   -- a global's slots lie in the table
-  slots-fit : (g : ℕ) → g < length os → (get_or os g noObject).kind ≡ 0
-      → slot (start_of (pieces_of os) g) + slot (extent (get_or os g noObject).size) ≤ 3584
-  slots-fit g h global =
+  slots_fit : (g : ℕ) → g < length os → (get_or os g no_object).kind ≡ 0
+      → slot (start_of (pieces_of os) g) + slot (extent (get_or os g no_object).size) ≤ 3584
+  slots_fit g h global =
       let long : length (pieces_of os) ≡ length os = length-map os piece_of in
-      let is : get_or (pieces_of os) g (record { kind = 0; size = 0; safe = true }) ≡ piece_of (get_or os g noObject) = get_or-map piece_of os g noObject in
-      let size : (get_or (pieces_of os) g (record { kind = 0; size = 0; safe = true })).size ≡ (get_or os g noObject).size = ap (λ x. x.size) is in
+      let is : get_or (pieces_of os) g (record { kind = 0; size = 0; safe = true }) ≡ piece_of (get_or os g no_object) = get_or-map piece_of os g no_object in
+      let size : (get_or (pieces_of os) g (record { kind = 0; size = 0; safe = true })).size ≡ (get_or os g no_object).size = ap (λ x. x.size) is in
       let end : start_of (pieces_of os) g + extent (get_or (pieces_of os) g (record { kind = 0; size = 0; safe = true })).size ≤ end_of (pieces_of os) =
-      ends-below (pieces_of os) g (omega arith) (ap (λ x. x.kind) is ∙ global) in
+      ends_below (pieces_of os) g (omega arith) (ap (λ x. x.kind) is ∙ global) in
       omega (arith, end, ap extent size)
 
   -- the code's painting of one object is the definition's
-  one_same : (g : ℕ) → g < length os → (table : List ℕ) → length table ≡ tableSize
-      → paintOne table (get_or kinds g 0) (get_or starts g 0) (get_or sizes g 0) (get_or colors g 0)
-      ≡ paintBy (eqb (get_or os g noObject).kind 0) g table
+  one_same : (g : ℕ) → g < length os → (table : List ℕ) → length table ≡ table_size
+      → paint_one table (get_or kinds g 0) (get_or starts g 0) (get_or sizes g 0) (get_or colors g 0)
+      ≡ paint_by (eqb (get_or os g no_object).kind 0) g table
   one_same g h table long =
-      (λ i. paintOne table (field_at (λ o. o.kind) i) (start_is g h i) (field_at (λ o. o.size) i) (field_at (λ o. o.color) i))
-      ∙ go (eqb (get_or os g noObject).kind 0) refl
+      (λ i. paint_one table (field_at (λ o. o.kind) i) (start_is g h i) (field_at (λ o. o.size) i) (field_at (λ o. o.color) i))
+      ∙ go (eqb (get_or os g no_object).kind 0) refl
     where
-      field_at : (field : Object → ℕ) → get_or (filled 400 (field noObject) (map field os)) g (field noObject) ≡ field (get_or os g noObject)
-      field_at field = getD-filled-map 400 field noObject os g
+      field_at : (field : Object → ℕ) → get_or (filled 400 (field no_object) (map field os)) g (field no_object) ≡ field (get_or os g no_object)
+      field_at field = get_d_filled_map 400 field no_object os g
 
-      go : (b : Bool) → eqb (get_or os g noObject).kind 0 ≡ b
-          → paintedBy b g table
-          ≡ paintBy b g table
+      go : (b : Bool) → eqb (get_or os g no_object).kind 0 ≡ b
+          → painted_by b g table
+          ≡ paint_by b g table
       go true e =
-          let fits : slot (start_of (pieces_of os) g) + slot (extent (get_or os g noObject).size) ≤ 3584 = slots-fit g h (eqb-true _ _ e) in
-          painted-exact table (start_of (pieces_of os) g) (extent (get_or os g noObject).size) (get_or os g noObject).color (omega arith)
+          let fits : slot (start_of (pieces_of os) g) + slot (extent (get_or os g no_object).size) ≤ 3584 = slots_fit g h (eqb-true _ _ e) in
+          painted_exact table (start_of (pieces_of os) g) (extent (get_or os g no_object).size) (get_or os g no_object).color (omega arith)
       go false e = refl
 
-  one-long : (g : ℕ) → g < length os → (table : List ℕ) → length table ≡ tableSize
-      → length (paintBy (eqb (get_or os g noObject).kind 0) g table) ≡ tableSize
-  one-long g h table long = go (eqb (get_or os g noObject).kind 0) refl
+  one_long : (g : ℕ) → g < length os → (table : List ℕ) → length table ≡ table_size
+      → length (paint_by (eqb (get_or os g no_object).kind 0) g table) ≡ table_size
+  one_long g h table long = go (eqb (get_or os g no_object).kind 0) refl
     where
-      go : (b : Bool) → eqb (get_or os g noObject).kind 0 ≡ b
-          → length (paintBy b g table) ≡ tableSize
+      go : (b : Bool) → eqb (get_or os g no_object).kind 0 ≡ b
+          → length (paint_by b g table) ≡ table_size
       go true e =
-          let fits : slot (start_of (pieces_of os) g) + slot (extent (get_or os g noObject).size) ≤ 3584 = slots-fit g h (eqb-true _ _ e) in
-          length-paint table (start_of (pieces_of os) g) (extent (get_or os g noObject).size) (get_or os g noObject).color (omega arith) ∙ long
+          let fits : slot (start_of (pieces_of os) g) + slot (extent (get_or os g no_object).size) ≤ 3584 = slots_fit g h (eqb-true _ _ e) in
+          length-paint table (start_of (pieces_of os) g) (extent (get_or os g no_object).size) (get_or os g no_object).color (omega arith) ∙ long
       go false e = long
 
   -- object g is the first of those from g on
-  first_of : (g : ℕ) (o : Object) (rest : List Object) → drop g os ≡ o ∷ rest → (g < length os) × (get_or os g noObject ≡ o) × (drop (g + 1) os ≡ rest)
+  first_of : (g : ℕ) (o : Object) (rest : List Object) → drop g os ≡ o ∷ rest → (g < length os) × (get_or os g no_object ≡ o) × (drop (g + 1) os ≡ rest)
   first_of g o rest e = go os g e
     where
-      go : (l : List Object) (n : ℕ) → drop n l ≡ o ∷ rest → (n < length l) × (get_or l n noObject ≡ o) × (drop (n + 1) l ≡ rest)
+      go : (l : List Object) (n : ℕ) → drop n l ≡ o ∷ rest → (n < length l) × (get_or l n no_object ≡ o) × (drop (n + 1) l ≡ rest)
       go [] zero q = absurd (none q)
         where
           none : ◌≡◌ {A = List Object} [] (o ∷ rest) → ⊥
@@ -184,113 +184,113 @@ module _ (os : List Object) (most : length os ≤ 400) (fit : end_of (pieces_of 
           none z = let x : ◌≡◌ {A = ℕ} 0 1 = cc in omega arith
       go (x ∷ xs) zero q = (omega arith, cc, cc)
       go (x ∷ xs) (suc n) q =
-          let later : (n < length xs) × (get_or xs n noObject ≡ o) × (drop (n + 1) xs ≡ rest) = go xs n q in
+          let later : (n < length xs) × (get_or xs n no_object ≡ o) × (drop (n + 1) xs ≡ rest) = go xs n q in
           let one : suc n + 1 ≡ suc (n + 1) = omega arith in
           (omega (arith, later.0), later.1, ap (λ k. drop k (x ∷ xs)) one ∙ later.2)
 
-  all_same : (rest : List Object) (g : ℕ) → drop g os ≡ rest → (table : List ℕ) → length table ≡ tableSize
-      → (paintHeld starts kinds sizes colors g (length rest) table ≡ paintGlobals (pieces_of os) g rest table)
-      × (length (paintGlobals (pieces_of os) g rest table) ≡ tableSize)
-  unfolding paintHeld paintGlobals
+  all_same : (rest : List Object) (g : ℕ) → drop g os ≡ rest → (table : List ℕ) → length table ≡ table_size
+      → (paint_held starts kinds sizes colors g (length rest) table ≡ paint_globals (pieces_of os) g rest table)
+      × (length (paint_globals (pieces_of os) g rest table) ≡ table_size)
+  unfolding paint_held paint_globals
   all_same [] g e table long = (refl, long)
   all_same (o ∷ rest) g e table long =
-      let f : (g < length os) × (get_or os g noObject ≡ o) × (drop (g + 1) os ≡ rest) = first_of g o rest e in
-      let here : paintBy (eqb (get_or os g noObject).kind 0) g table ≡ elim (eqb o.kind 0) [ true ↦ paint table (start_of (pieces_of os) g) (extent o.size) o.color | false ↦ table ] =
+      let f : (g < length os) × (get_or os g no_object ≡ o) × (drop (g + 1) os ≡ rest) = first_of g o rest e in
+      let here : paint_by (eqb (get_or os g no_object).kind 0) g table ≡ elim (eqb o.kind 0) [ true ↦ paint table (start_of (pieces_of os) g) (extent o.size) o.color | false ↦ table ] =
       λ i. elim (eqb (f.1 i).kind 0) [ true ↦ paint table (start_of (pieces_of os) g) (extent (f.1 i).size) (f.1 i).color | false ↦ table ] in
-      let later = all_same rest (g + 1) f.2 (paintBy (eqb (get_or os g noObject).kind 0) g table) (one-long g f.0 table long) in (
-        ap (paintHeld starts kinds sizes colors (g + 1) (length rest)) (one_same g f.0 table long) ∙ later.0 ∙ ap (paintGlobals (pieces_of os) (g + 1) rest) here,
-        ap (λ t. length (paintGlobals (pieces_of os) (g + 1) rest t)) (sym here) ∙ later.1,
+      let later = all_same rest (g + 1) f.2 (paint_by (eqb (get_or os g no_object).kind 0) g table) (one_long g f.0 table long) in (
+        ap (paint_held starts kinds sizes colors (g + 1) (length rest)) (one_same g f.0 table long) ∙ later.0 ∙ ap (paint_globals (pieces_of os) (g + 1) rest) here,
+        ap (λ t. length (paint_globals (pieces_of os) (g + 1) rest t)) (sym here) ∙ later.1,
       )
 
 module _ (p : Program) (memory table : List ℕ) (most : length p.objects ≤ 400)
-    (exact : length memory ≡ memorySize) (long : length table ≡ tableSize) where
-  abbrev starts-of : List ℕ
-  starts-of = (layout_of (pieces_of p.objects)).starts
+    (exact : length memory ≡ memory_size) (long : length table ≡ table_size) where
+  abbrev starts_of : List ℕ
+  starts_of = (layout_of (pieces_of p.objects)).starts
 
-  abbrev kinds-of : List ℕ
-  kinds-of = filled 400 0 (map (λ o. o.kind) p.objects)
+  abbrev kinds_of_lem : List ℕ
+  kinds_of_lem = filled 400 0 (map (λ o. o.kind) p.objects)
 
-  abbrev sizes-of : List ℕ
-  sizes-of = filled 400 0 (map (λ o. o.size) p.objects)
+  abbrev sizes_of : List ℕ
+  sizes_of = filled 400 0 (map (λ o. o.size) p.objects)
 
-  abbrev colors-of : List ℕ
-  colors-of = filled 400 0 (map (λ o. o.color) p.objects)
+  abbrev colors_of : List ℕ
+  colors_of = filled 400 0 (map (λ o. o.color) p.objects)
 
-  laid-first : end_of (pieces_of p.objects) ≤ 28672 → laidTable starts-of kinds-of sizes-of colors-of (length p.objects) table ≡ firstTable p
-  unfolding laidTable firstTable blankTable
-  laid-first fit =
-      let blank : length {A = ℕ} (replicate (length table) 0) ≡ tableSize = length-replicate (length table) 0 ∙ long in
+  laid_first : end_of (pieces_of p.objects) ≤ 28672 → laid_table starts_of kinds_of_lem sizes_of colors_of (length p.objects) table ≡ first_table p
+  unfolding laid_table first_table blank_table
+  laid_first fit =
+      let blank : length {A = ℕ} (replicate (length table) 0) ≡ table_size = length-replicate (length table) 0 ∙ long in
       let all = all_same p.objects most fit p.objects 0 refl (replicate (length table) 0) blank in
-      let globals : List ℕ = paintGlobals (pieces_of p.objects) 0 p.objects (replicate (length table) 0) in
-      let header : length (paint globals heapStart 8 1) ≡ tableSize = length-paint globals heapStart 8 1 (omega (arith, all.1)) ∙ all.1 in
-      ap (λ n. painted (painted (paintHeld starts-of kinds-of sizes-of colors-of 0 n (replicate (length table) 0)) heapStart 8 1) endSlot 8 1) (counted-all (length p.objects) most)
-      ∙ ap (λ t. painted (painted t heapStart 8 1) endSlot 8 1) all.0
-      ∙ ap (λ t. painted t endSlot 8 1) (painted-exact globals heapStart 8 1 (omega (arith, all.1)))
-      ∙ painted-exact (paint globals heapStart 8 1) endSlot 8 1 (omega (arith, header))
-      ∙ ap (λ n. paint (paint (paintGlobals (pieces_of p.objects) 0 p.objects (replicate n 0)) heapStart 8 1) endSlot 8 1) long
+      let globals : List ℕ = paint_globals (pieces_of p.objects) 0 p.objects (replicate (length table) 0) in
+      let header : length (paint globals heap_start 8 1) ≡ table_size = length-paint globals heap_start 8 1 (omega (arith, all.1)) ∙ all.1 in
+      ap (λ n. painted (painted (paint_held starts_of kinds_of_lem sizes_of colors_of 0 n (replicate (length table) 0)) heap_start 8 1) end_slot 8 1) (counted_all (length p.objects) most)
+      ∙ ap (λ t. painted (painted t heap_start 8 1) end_slot 8 1) all.0
+      ∙ ap (λ t. painted t end_slot 8 1) (painted_exact globals heap_start 8 1 (omega (arith, all.1)))
+      ∙ painted_exact (paint globals heap_start 8 1) end_slot 8 1 (omega (arith, header))
+      ∙ ap (λ n. paint (paint (paint_globals (pieces_of p.objects) 0 p.objects (replicate n 0)) heap_start 8 1) end_slot 8 1) long
 
-  first-memory : started memory ≡ firstMemory
-  unfolding blankMemory
-  first-memory = started-exact memory exact
+  first_memory_lem : started memory ≡ first_memory
+  unfolding blank_memory
+  first_memory_lem = started_exact memory exact
 
   -- what a program's start answers and leaves, in the words of the definitions
-  abbrev pub firstFor : Bool → After Laid
-  firstFor b =
+  abbrev pub first_for : Bool → After Laid
+  first_for b =
       record {
-        answer = record { fits = b; starts = starts-of };
-        memory = elim b [ true ↦ firstMemory | false ↦ memory ];
-        table = elim b [ true ↦ firstTable p | false ↦ table ];
+        answer = record { fits = b; starts = starts_of };
+        memory = elim b [ true ↦ first_memory | false ↦ memory ];
+        table = elim b [ true ↦ first_table p | false ↦ table ];
       }
 
-  pub starts_first : laidStart kinds-of sizes-of colors-of (length p.objects) memory table ≡ firstFor (fits (pieces_of p.objects))
-  unfolding laidStart
-  starts_first = ap (λ os. laid os (fits os)) (pieces-held p.objects most) ∙ go (fits (pieces_of p.objects)) refl
+  pub starts_first : laid_start kinds_of_lem sizes_of colors_of (length p.objects) memory table ≡ first_for (fits (pieces_of p.objects))
+  unfolding laid_start
+  starts_first = ap (λ os. laid os (fits os)) (pieces_held p.objects most) ∙ go (fits (pieces_of p.objects)) refl
     where
       laid : List Piece → Bool → After Laid
       laid os b =
           record {
             answer = record { fits = b; starts = (layout_of os).starts };
             memory = elim b [ true ↦ started memory | false ↦ memory ];
-            table = elim b [ true ↦ laidTable (layout_of os).starts kinds-of sizes-of colors-of (length p.objects) table | false ↦ table ];
+            table = elim b [ true ↦ laid_table (layout_of os).starts kinds_of_lem sizes_of colors_of (length p.objects) table | false ↦ table ];
           }
 
-      go : (b : Bool) → fits (pieces_of p.objects) ≡ b → laid (pieces_of p.objects) b ≡ firstFor b
-      go true e = λ i. record { answer = record { fits = true; starts = starts-of }; memory = first-memory i; table = laid-first (leb-true _ _ e) i }
+      go : (b : Bool) → fits (pieces_of p.objects) ≡ b → laid (pieces_of p.objects) b ≡ first_for b
+      go true e = λ i. record { answer = record { fits = true; starts = starts_of }; memory = first_memory_lem i; table = laid_first (leb-true _ _ e) i }
       go false e = refl
 
 -- ---- the code's two ends
 
 module _ (kinds sizes colors : List ℕ) (objects : ℕ) (memory table : List ℕ) {lay : Layout}
-    (known : lay ≡ layout_of (piecesIn kinds sizes colors objects)) where
+    (known : lay ≡ layout_of (pieces_in kinds sizes colors objects)) where
   abbrev start : After Laid
-  start = laidStart kinds sizes colors objects memory table
+  start = laid_start kinds sizes colors objects memory table
 
-  same : layout_of (piecesIn kinds sizes colors objects) ≡ lay
+  same : layout_of (pieces_in kinds sizes colors objects) ≡ lay
   same = sym known
 
-  too_long : 28672 < lay.end → start ≡ record { answer = record { fits = false; starts = lay.starts }; memory = memory; table = table }
-  unfolding laidStart
-  too_long over =
-      let past : 28672 < end_of (piecesIn kinds sizes colors objects) = subst (λ (n : ℕ). 28672 < n) (ap (λ x. x.end) known) over in
-      rw (lt-leb (end_of (piecesIn kinds sizes colors objects)) 28672 past, laidStart)
+  too_long_lem : 28672 < lay.end → start ≡ record { answer = record { fits = false; starts = lay.starts }; memory = memory; table = table }
+  unfolding laid_start
+  too_long_lem over =
+      let past : 28672 < end_of (pieces_in kinds sizes colors objects) = subst (λ (n : ℕ). 28672 < n) (ap (λ x. x.end) known) over in
+      rw (lt-leb (end_of (pieces_in kinds sizes colors objects)) 28672 past, laid_start)
       (λ i. record { answer = record { fits = false; starts = (same i).starts }; memory = memory; table = table })
 
-  laid_out : lay.end ≤ 28672
-      → start ≡ record { answer = record { fits = true; starts = lay.starts }; memory = started memory; table = laidTable lay.starts kinds sizes colors objects table }
-  unfolding laidStart
-  laid_out fit =
-      let within : end_of (piecesIn kinds sizes colors objects) ≤ 28672 = subst (λ (n : ℕ). n ≤ 28672) (ap (λ x. x.end) known) fit in
-      rw (le-leb (end_of (piecesIn kinds sizes colors objects)) 28672 within, laidStart)
-      (λ i. record { answer = record { fits = true; starts = (same i).starts }; memory = started memory; table = laidTable (same i).starts kinds sizes colors objects table })
+  laid_out_lem : lay.end ≤ 28672
+      → start ≡ record { answer = record { fits = true; starts = lay.starts }; memory = started memory; table = laid_table lay.starts kinds sizes colors objects table }
+  unfolding laid_start
+  laid_out_lem fit =
+      let within : end_of (pieces_in kinds sizes colors objects) ≤ 28672 = subst (λ (n : ℕ). n ≤ 28672) (ap (λ x. x.end) known) fit in
+      rw (le-leb (end_of (pieces_in kinds sizes colors objects)) 28672 within, laid_start)
+      (λ i. record { answer = record { fits = true; starts = (same i).starts }; memory = started memory; table = laid_table (same i).starts kinds sizes colors objects table })
 
   -- nothing is changed where they are too long
-  pub refuses-long : {x : Laid} → 28672 < lay.end → x ≡ record { fits = false; starts = lay.starts }
+  pub refuses_long : {x : Laid} → 28672 < lay.end → x ≡ record { fits = false; starts = lay.starts }
       → (x ≡ start.answer) × ((memory ≡ start.memory) × (table ≡ start.table))
-  refuses-long over e =
-      (e ∙ sym (ap (λ x. x.answer) (too_long over)), (sym (ap (λ x. x.memory) (too_long over)), sym (ap (λ x. x.table) (too_long over))))
+  refuses_long over e =
+      (e ∙ sym (ap (λ x. x.answer) (too_long_lem over)), (sym (ap (λ x. x.memory) (too_long_lem over)), sym (ap (λ x. x.table) (too_long_lem over))))
 
-  pub lays-out : {x : Laid} {m t : List ℕ} → lay.end ≤ 28672 → x ≡ record { fits = true; starts = lay.starts } → m ≡ started memory
-      → t ≡ laidTable lay.starts kinds sizes colors objects table
+  pub lays_out : {x : Laid} {m t : List ℕ} → lay.end ≤ 28672 → x ≡ record { fits = true; starts = lay.starts } → m ≡ started memory
+      → t ≡ laid_table lay.starts kinds sizes colors objects table
       → (x ≡ start.answer) × ((m ≡ start.memory) × (t ≡ start.table))
-  lays-out fit e f g =
-      (e ∙ sym (ap (λ x. x.answer) (laid_out fit)), (f ∙ sym (ap (λ x. x.memory) (laid_out fit)), g ∙ sym (ap (λ x. x.table) (laid_out fit))))
+  lays_out fit e f g =
+      (e ∙ sym (ap (λ x. x.answer) (laid_out_lem fit)), (f ∙ sym (ap (λ x. x.memory) (laid_out_lem fit)), g ∙ sym (ap (λ x. x.table) (laid_out_lem fit))))

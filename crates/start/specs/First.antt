@@ -4,28 +4,28 @@ use Rattle.files.specs.declared.Object.{Object}
 use Rattle.files.specs.Program.{Program}
 use Rattle.opcodes.specs.View.{extent}
 use Rattle.layout.specs.Layout.{Piece, pieces_of, start_of}
-use Rattle.memory.specs.Memory.{memorySize, tableSize, paint}
-use Rattle.heap.specs.Heap.{heapStart, endSlot, emptyHeap}
+use Rattle.memory.specs.Memory.{memory_size, table_size, paint}
+use Rattle.heap.specs.Heap.{heap_start, end_slot, empty_heap}
 
 -- ---- memory: all 0 but for the header of one free block
 
-unfoldable pub blankMemory : List ℕ
-blankMemory = replicate memorySize 0
+unfoldable pub blank_memory : List ℕ
+blank_memory = replicate memory_size 0
 
-abbrev pub firstMemory : List ℕ
-firstMemory = emptyHeap blankMemory
+abbrev pub first_memory : List ℕ
+first_memory = empty_heap blank_memory
 
 -- ---- the table: "guards have 0"; "Color 1 is for heap headers"; "The end slot .. is color 1"
 
-unfoldable pub paintGlobals : List Piece → (g : ℕ) → List Object → (table : List ℕ) → List ℕ
-paintGlobals pieces g [] table = table
-paintGlobals pieces g (o ∷ os) table =
-    paintGlobals pieces (g + 1) os
+unfoldable pub paint_globals : List Piece → (g : ℕ) → List Object → (table : List ℕ) → List ℕ
+paint_globals pieces g [] table = table
+paint_globals pieces g (o ∷ os) table =
+    paint_globals pieces (g + 1) os
     (elim (eqb o.kind 0) [ true ↦ paint table (start_of pieces g) (extent o.size) o.color | false ↦ table ])
 
-unfoldable pub blankTable : List ℕ
-blankTable = replicate tableSize 0
+unfoldable pub blank_table : List ℕ
+blank_table = replicate table_size 0
 
-unfoldable pub firstTable : Program → List ℕ
-firstTable p =
-    paint (paint (paintGlobals (pieces_of p.objects) 0 p.objects blankTable) heapStart 8 1) endSlot 8 1
+unfoldable pub first_table : Program → List ℕ
+first_table p =
+    paint (paint (paint_globals (pieces_of p.objects) 0 p.objects blank_table) heap_start 8 1) end_slot 8 1

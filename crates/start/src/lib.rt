@@ -1,6 +1,6 @@
 // The start of a run: memory and table are cleared and laid out.
 ghost use Rattle.std.specs.Prelude.{◌≡◌};
-ghost use Rattle.start.specs.Held.{paintOne, laidTable, laidStart};
+ghost use Rattle.start.specs.Held.{paint_one, laid_table, laid_start};
 
 use opcodes::extent::extent_of;
 
@@ -14,7 +14,7 @@ pub struct Laid {
 
 // The slots of a global get its color.
 fn paint_one(table: &mut [u8], kind: u8, start: u32, size: u16, color: u8)
-    ensures { table.new ≡ paintOne table.old kind start size color }
+    ensures { table.new ≡ paint_one table.old kind start size color }
 {
     if kind == 0 {
         memory::colors::paint(table, start, extent_of(size as u32) as u32, color);
@@ -30,7 +30,7 @@ fn lay_table(
     colors: [u8; 400],
     objects: usize,
 )
-    ensures { table.new ≡ laidTable starts kinds sizes colors objects table.old }
+    ensures { table.new ≡ laid_table starts kinds sizes colors objects table.old }
 {
     memory::bytes::fill(table, 0);
     let mut g = 0;
@@ -52,9 +52,9 @@ pub fn lay(
     memory: &mut [u8],
     table: &mut [u8],
 ) -> Laid
-    ensures value { result ≡ (laidStart kinds sizes colors objects memory.old table.old).answer }
-    ensures memory_after { memory.new ≡ (laidStart kinds sizes colors objects memory.old table.old).memory }
-    ensures table_after { table.new ≡ (laidStart kinds sizes colors objects memory.old table.old).table }
+    ensures value { result ≡ (laid_start kinds sizes colors objects memory.old table.old).answer }
+    ensures memory_after { memory.new ≡ (laid_start kinds sizes colors objects memory.old table.old).memory }
+    ensures table_after { table.new ≡ (laid_start kinds sizes colors objects memory.old table.old).table }
 {
     let layout = layout::lay_out(&kinds, &sizes, &colors, objects);
     let starts = layout.starts;

@@ -2,7 +2,7 @@
 use Rattle.std.specs.Prelude.{ℕ, ◌+◌, List, [], ◌∷◌, take}
 use Rattle.numbers.specs.declared.Refusal.{Refusal}
 use Rattle.opcodes.specs.declared.Instr.{Instr}
-use Rattle.opcodes.specs.View.{View, act, jump, jumpIf, store, check, view}
+use Rattle.opcodes.specs.View.{View, act, jump, jump_if, store, check, view}
 use Rattle.stops.specs.declared.Reason.{Reason}
 use Rattle.stops.specs.declared.Run.{Run}
 
@@ -23,47 +23,47 @@ number_of Reason.Unsound = 38
 number_of (Reason.Refused q) = q.number
 
 -- "for a refusal, number and place": the place that goes with a record's number
-abbrev pub placeFor : Reason → (place : ℕ) → ℕ
-placeFor Reason.Finished place = place
-placeFor Reason.PastEnd place = place
-placeFor Reason.LimitUsed place = place
-placeFor Reason.NoInput place = place
-placeFor Reason.NoRoom place = place
-placeFor Reason.ReadOutside place = place
-placeFor Reason.StoreOutside place = place
-placeFor Reason.Forbidden place = place
-placeFor Reason.BadFree place = place
-placeFor Reason.Unsound place = place
-placeFor (Reason.Refused q) place = q.place
+abbrev pub place_for : Reason → (place : ℕ) → ℕ
+place_for Reason.Finished place = place
+place_for Reason.PastEnd place = place
+place_for Reason.LimitUsed place = place
+place_for Reason.NoInput place = place
+place_for Reason.NoRoom place = place
+place_for Reason.ReadOutside place = place
+place_for Reason.StoreOutside place = place
+place_for Reason.Forbidden place = place
+place_for Reason.BadFree place = place
+place_for Reason.Unsound place = place
+place_for (Reason.Refused q) place = q.place
 
 abbrev pub place_of : Run → ℕ
-place_of run = placeFor run.reason run.place
+place_of run = place_for run.reason run.place
 
 -- "reason, place, steps, numbers out, numbers taken"
-abbrev pub fiveOf : Run → List ℕ
-fiveOf run = number_of run.reason ∷ place_of run ∷ run.steps ∷ run.out ∷ run.taken ∷ []
+abbrev pub five_of : Run → List ℕ
+five_of run = number_of run.reason ∷ place_of run ∷ run.steps ∷ run.out ∷ run.taken ∷ []
 
 -- "A refusal .. has zeros in its other fields"
-abbrev pub refusedRun : Refusal → Run
-refusedRun q = record { reason = Reason.Refused q; place = 0; steps = 0; out = 0; taken = 0 }
+abbrev pub refused_run : Refusal → Run
+refused_run q = record { reason = Reason.Refused q; place = 0; steps = 0; out = 0; taken = 0 }
 
 -- 1 for an instruction that is no check
 abbrev pub counts : View → ℕ
 counts (act x) = 1
 counts (jump p) = 1
-counts (jumpIf a p) = 1
+counts (jump_if a p) = 1
 counts (store aim b s) = 1
 counts (check aim c) = 0
 
-unfoldable pub placesIn : List Instr → ℕ
-placesIn [] = 0
-placesIn (i ∷ code) = counts (view i) + placesIn code
+unfoldable pub places_in : List Instr → ℕ
+places_in [] = 0
+places_in (i ∷ code) = counts (view i) + places_in code
 
 -- "A place counts the instructions before it that are not checks"
 abbrev pub place_in : (code : List Instr) (at : ℕ) → ℕ
-place_in code at = placesIn (take at code)
+place_in code at = places_in (take at code)
 
 -- the record of a stop before instruction `at`
-abbrev pub recordOf : (code : List Instr) (at steps out taken : ℕ) → Reason → Run
-recordOf code at steps out taken reason =
+abbrev pub record_of : (code : List Instr) (at steps out taken : ℕ) → Reason → Run
+record_of code at steps out taken reason =
     record { reason = reason; place = place_in code at; steps = steps; out = out; taken = taken }

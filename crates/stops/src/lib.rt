@@ -1,6 +1,6 @@
 // Why a run stopped, or why there was none; its record, and the five numbers that come back.
 ghost use Rattle.std.specs.Prelude.{◌≡◌};
-ghost use Rattle.stops.specs.Stop.{number_of, placeFor, refusedRun, fiveOf};
+ghost use Rattle.stops.specs.Stop.{number_of, place_for, refused_run, five_of};
 
 use numbers::Refusal;
 
@@ -35,7 +35,7 @@ pub struct Run {
 
 // The record of a refusal: zeros in its other fields.
 pub fn refused(why: Refusal) -> Run
-    ensures { result ≡ refusedRun why }
+    ensures { result ≡ refused_run why }
 {
     Run {
         reason: Reason::Refused(why),
@@ -67,7 +67,7 @@ fn number_of(reason: Reason) -> u8
 
 // The place that goes with a reason: a refusal has its own.
 fn place_for(reason: Reason, place: usize) -> usize
-    ensures { result ≡ placeFor reason place }
+    ensures { result ≡ place_for reason place }
 {
     match reason {
         Reason::Finished => place,
@@ -86,7 +86,7 @@ fn place_for(reason: Reason, place: usize) -> usize
 
 // A record as the five numbers that come back.
 pub fn numbers_of(run: Run) -> [u64; 5]
-    ensures { result ≡ fiveOf run }
+    ensures { result ≡ five_of run }
 {
     let reason = run.reason;
     let number = number_of(reason) as u64;

@@ -1,7 +1,7 @@
 // The record of a stop: a place counts the instructions before it that are not checks.
 ghost use Rattle.std.specs.Prelude.{◌≡◌};
 ghost use Rattle.opcodes.specs.View.{view};
-ghost use Rattle.stops.specs.Stop.{counts, place_in, recordOf};
+ghost use Rattle.stops.specs.Stop.{counts, place_in, record_of};
 ghost use Rattle.stops.specs.Held.{code_of};
 
 use super::{Reason, Run};
@@ -46,7 +46,7 @@ pub fn recorded(
     taken: usize,
     reason: Reason,
 ) -> Run
-    ensures { result ≡ recordOf (code_of code lines) at steps out taken reason }
+    ensures { result ≡ record_of (code_of code lines) at steps out taken reason }
 {
     Run {
         reason,

@@ -2,8 +2,8 @@
 //
 // Every function answers for every number that it can be given.
 ghost use Rattle.std.specs.Prelude.{◌≡◌};
-ghost use Rattle.opcodes.specs.Table.{rowOf};
-ghost use Rattle.opcodes.specs.Ranges.{hasOpcode};
+ghost use Rattle.opcodes.specs.Table.{row_of};
+ghost use Rattle.opcodes.specs.Ranges.{has_opcode};
 
 use opcodes::versions::has_group;
 use opcodes::{Group, Operand, Row};
@@ -168,7 +168,7 @@ const ROWS: [Row; 22] = [
 
 // The row of an opcode; a number that is no opcode has no operands.
 pub fn row_of(op: u32) -> Row
-    ensures { result ≡ rowOf op }
+    ensures { result ≡ row_of op }
 {
     let at = op as usize;
     if 22 <= at {
@@ -185,7 +185,7 @@ pub fn row_of(op: u32) -> Row
 
 // Whether a number is an opcode of a version.
 pub fn has_opcode(version: u8, op: u32) -> bool
-    ensures { result ≡ hasOpcode version op }
+    ensures { result ≡ has_opcode version op }
 {
     let row = row_of(op);
     let group = row.group;

@@ -1,7 +1,7 @@
 -- What `writer` promises, and what carries it.
 --
 -- Any held value is written as a file of version 2, or answered `TooSmall` or `NoProgram` with no byte
--- changed (`write_program`: equations with `writtenIn` and `roomWith` of files/specs/Held.antt). That what
+-- changed (`write_program`: equations with `written_in` and `room_with` of files/specs/Held.antt). That what
 -- is written reads back is a law of those definitions, in `files` (RoundTrip).
 --
 -- How the code comes to it: the first pass adds up lengths and stops at the first field that no file says

@@ -3,7 +3,7 @@
 // A first pass measures the program and judges every field of it; a second one writes it where it fits.
 // So a refusal changes no byte, and what is written is read back as exactly that program.
 ghost use Rattle.std.specs.Prelude.{◌≡◌};
-ghost use Rattle.files.specs.Held.{writtenIn, roomWith};
+ghost use Rattle.files.specs.Held.{written_in, room_with};
 
 use files::Loaded;
 pub use files::Written;
@@ -15,8 +15,8 @@ mod writing; // writing.rt: its bytes
 
 // Writes what is held as a file of version 2 into a room, where it is a program and fits.
 pub fn write_program(p: Loaded, room: &mut [u8]) -> Written
-    ensures answer { result ≡ writtenIn room.old p }
-    ensures room { room.new ≡ roomWith room.old p }
+    ensures answer { result ≡ written_in room.old p }
+    ensures room { room.new ≡ room_with room.old p }
 {
     let kinds = p.kinds;
     let sizes = p.sizes;

@@ -2,10 +2,10 @@
 // field is judged by the table that the reader goes by.
 ghost use Rattle.std.specs.Prelude.{◌≡◌, map, ◌+◌, ◌≤◌, length, take, leb};
 ghost use Rattle.numbers.specs.Number.{width};
-ghost use Rattle.opcodes.specs.Ranges.{within, present, scopeOver};
-ghost use Rattle.files.specs.Writing.{spellIf, spellObject, spellInstr, spellFile, both, goodObject, goodOperand, goodInstr};
+ghost use Rattle.opcodes.specs.Ranges.{within, present, scope_over};
+ghost use Rattle.files.specs.Writing.{spell_if, spell_object, spell_instr, spell_file, both, good_object, good_operand, good_instr};
 ghost use Rattle.files.specs.Held.{tabulate};
-ghost use Rattle.writer.specs.Inside.{measured, objectIn, codeMeasured, objectsMeasured, shownIn, sayable};
+ghost use Rattle.writer.specs.Inside.{measured, object_in, code_measured, objects_measured, shown_in, sayable};
 
 use files::Line;
 use instructions::parts_of;
@@ -23,7 +23,7 @@ pub enum Length {
 
 // An operand by its kind; one that does not stand in the file has to be 0.
 fn operand_length(kinds: &[u8], scope: Scope, kind: Operand, n: u32) -> Length
-    ensures { result ≡ measured (goodOperand (scopeOver scope kinds.now) kind n) (length (spellIf (present scope.version kind) n)) }
+    ensures { result ≡ measured (good_operand (scope_over scope kinds.now) kind n) (length (spell_if (present scope.version kind) n)) }
 {
     if !is_present(scope.version, kind) {
         if n != 0 {
@@ -39,7 +39,7 @@ fn operand_length(kinds: &[u8], scope: Scope, kind: Operand, n: u32) -> Length
 
 // One instruction.
 fn instr_length(kinds: &[u8], scope: Scope, instr: Instr) -> Length
-    ensures { result ≡ measured (goodInstr (scopeOver scope kinds.now) instr) (length (spellInstr scope.version instr)) }
+    ensures { result ≡ measured (good_instr (scope_over scope kinds.now) instr) (length (spell_instr scope.version instr)) }
 {
     let parts = parts_of(instr);
     if !has_opcode(scope.version, parts.op) {
@@ -72,7 +72,7 @@ fn instr_length(kinds: &[u8], scope: Scope, instr: Instr) -> Length
 // As many instructions as the scope says.
 fn code_length(kinds: &[u8], scope: Scope, code: [Line; 2000]) -> Length
     requires { scope.lines ≤ 2000 }
-    ensures { result ≡ codeMeasured (scopeOver scope kinds.now) (map (λ x. x.instr) (take scope.lines code)) }
+    ensures { result ≡ code_measured (scope_over scope kinds.now) (map (λ x. x.instr) (take scope.lines code)) }
 {
     let lines = scope.lines;
     let mut total = 0;
@@ -90,7 +90,7 @@ fn code_length(kinds: &[u8], scope: Scope, code: [Line; 2000]) -> Length
 
 // One object of version 2.
 fn object_length(kind: u8, size: u16, color: u8) -> Length
-    ensures { result ≡ measured (goodObject 2 (record { kind = kind; size = size; color = color })) (length (spellObject 2 (record { kind = kind; size = size; color = color }))) }
+    ensures { result ≡ measured (good_object 2 (record { kind = kind; size = size; color = color })) (length (spell_object 2 (record { kind = kind; size = size; color = color }))) }
 {
     if !is_color(color as u32) {
         return Length::Bad;
@@ -114,7 +114,7 @@ fn object_length(kind: u8, size: u16, color: u8) -> Length
 // `count` objects.
 fn objects_length(count: usize, kinds: [u8; 400], sizes: [u16; 400], colors: [u8; 400]) -> Length
     requires { count ≤ 400 }
-    ensures { result ≡ objectsMeasured (tabulate (objectIn kinds sizes colors) 0 count) }
+    ensures { result ≡ objects_measured (tabulate (object_in kinds sizes colors) 0 count) }
 {
     let mut total = 0;
     for i in 0..count {
@@ -130,7 +130,7 @@ fn objects_length(count: usize, kinds: [u8; 400], sizes: [u16; 400], colors: [u8
 // The instructions, judged over the kinds of the objects that count.
 fn lines_length(count: usize, kinds: [u8; 400], scope: Scope, code: [Line; 2000]) -> Length
     requires { (count ≤ 400) × (scope.lines ≤ 2000) }
-    ensures { result ≡ codeMeasured (scopeOver scope (take count kinds)) (map (λ x. x.instr) (take scope.lines code)) }
+    ensures { result ≡ code_measured (scope_over scope (take count kinds)) (map (λ x. x.instr) (take scope.lines code)) }
 {
     code_length(&kinds[..count], scope, code)
 }
@@ -166,7 +166,7 @@ pub(crate) fn file_length(
     colors: [u8; 400],
     code: [Line; 2000],
 ) -> Length
-    ensures { result ≡ measured (sayable count lines (shownIn count lines kinds sizes colors code)) (length (spellFile 2 (shownIn count lines kinds sizes colors code))) }
+    ensures { result ≡ measured (sayable count lines (shown_in count lines kinds sizes colors code)) (length (spell_file 2 (shown_in count lines kinds sizes colors code))) }
 {
     if !is_counted(count, lines) {
         return Length::Bad;

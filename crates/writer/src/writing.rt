@@ -2,9 +2,9 @@
 ghost use Rattle.std.specs.Prelude.{◌≡◌, map, ◌+◌, ◌≤◌, length, take};
 ghost use Rattle.std.proofs.lemmas.List.Edits.{sets};
 ghost use Rattle.numbers.specs.Number.{spell, width};
-ghost use Rattle.files.specs.Writing.{spellIf, spellObject, spellInstr, spellAll, spellFile};
+ghost use Rattle.files.specs.Writing.{spell_if, spell_object, spell_instr, spell_all, spell_file};
 ghost use Rattle.files.specs.Held.{tabulate};
-ghost use Rattle.writer.specs.Inside.{objectIn, shownIn};
+ghost use Rattle.writer.specs.Inside.{object_in, shown_in};
 
 use files::Line;
 use instructions::parts_of;
@@ -27,9 +27,9 @@ fn put(room: &mut [u8], at: usize, n: u32) -> usize
 
 // A number that stands in the file, or nothing.
 fn put_if(room: &mut [u8], at: usize, stands: bool, n: u32) -> usize
-    requires { at + length (spellIf stands n) ≤ length room.old }
-    ensures place { result ≡ at + length (spellIf stands n) }
-    ensures room { room.new ≡ sets room.old at (spellIf stands n) }
+    requires { at + length (spell_if stands n) ≤ length room.old }
+    ensures place { result ≡ at + length (spell_if stands n) }
+    ensures room { room.new ≡ sets room.old at (spell_if stands n) }
 {
     if stands {
         return put(room, at, n);
@@ -39,9 +39,9 @@ fn put_if(room: &mut [u8], at: usize, stands: bool, n: u32) -> usize
 
 // One object of version 2.
 fn put_object(room: &mut [u8], at: usize, kind: u8, size: u16, color: u8) -> usize
-    requires { at + length (spellObject 2 (record { kind = kind; size = size; color = color })) ≤ length room.old }
-    ensures place { result ≡ at + length (spellObject 2 (record { kind = kind; size = size; color = color })) }
-    ensures room { room.new ≡ sets room.old at (spellObject 2 (record { kind = kind; size = size; color = color })) }
+    requires { at + length (spell_object 2 (record { kind = kind; size = size; color = color })) ≤ length room.old }
+    ensures place { result ≡ at + length (spell_object 2 (record { kind = kind; size = size; color = color })) }
+    ensures room { room.new ≡ sets room.old at (spell_object 2 (record { kind = kind; size = size; color = color })) }
 {
     let past_kind = put(room, at, kind as u32);
     let past_size = put_if(room, past_kind, kind == 0, size as u32);
@@ -50,9 +50,9 @@ fn put_object(room: &mut [u8], at: usize, kind: u8, size: u16, color: u8) -> usi
 
 // One instruction of version 2.
 fn put_instr(room: &mut [u8], at: usize, instr: Instr) -> usize
-    requires { at + length (spellInstr 2 instr) ≤ length room.old }
-    ensures place { result ≡ at + length (spellInstr 2 instr) }
-    ensures room { room.new ≡ sets room.old at (spellInstr 2 instr) }
+    requires { at + length (spell_instr 2 instr) ≤ length room.old }
+    ensures place { result ≡ at + length (spell_instr 2 instr) }
+    ensures room { room.new ≡ sets room.old at (spell_instr 2 instr) }
 {
     let parts = parts_of(instr);
     let row = row_of(parts.op);
@@ -76,9 +76,9 @@ fn put_objects(
     sizes: [u16; 400],
     colors: [u8; 400],
 ) -> usize
-    requires { (count ≤ 400) × (at + length (spellAll (spellObject 2) (tabulate (objectIn kinds sizes colors) 0 count)) ≤ length room.old) }
-    ensures place { result ≡ at + length (spellAll (spellObject 2) (tabulate (objectIn kinds sizes colors) 0 count)) }
-    ensures room { room.new ≡ sets room.old at (spellAll (spellObject 2) (tabulate (objectIn kinds sizes colors) 0 count)) }
+    requires { (count ≤ 400) × (at + length (spell_all (spell_object 2) (tabulate (object_in kinds sizes colors) 0 count)) ≤ length room.old) }
+    ensures place { result ≡ at + length (spell_all (spell_object 2) (tabulate (object_in kinds sizes colors) 0 count)) }
+    ensures room { room.new ≡ sets room.old at (spell_all (spell_object 2) (tabulate (object_in kinds sizes colors) 0 count)) }
 {
     let mut place = at;
     for i in 0..count {
@@ -89,9 +89,9 @@ fn put_objects(
 
 // `lines` instructions.
 fn put_code(room: &mut [u8], at: usize, lines: usize, code: [Line; 2000]) -> usize
-    requires { (lines ≤ 2000) × (at + length (spellAll (spellInstr 2) (map (λ x. x.instr) (take lines code))) ≤ length room.old) }
-    ensures place { result ≡ at + length (spellAll (spellInstr 2) (map (λ x. x.instr) (take lines code))) }
-    ensures room { room.new ≡ sets room.old at (spellAll (spellInstr 2) (map (λ x. x.instr) (take lines code))) }
+    requires { (lines ≤ 2000) × (at + length (spell_all (spell_instr 2) (map (λ x. x.instr) (take lines code))) ≤ length room.old) }
+    ensures place { result ≡ at + length (spell_all (spell_instr 2) (map (λ x. x.instr) (take lines code))) }
+    ensures room { room.new ≡ sets room.old at (spell_all (spell_instr 2) (map (λ x. x.instr) (take lines code))) }
 {
     let mut place = at;
     for i in 0..lines {
@@ -112,9 +112,9 @@ pub(crate) fn put_file(
     colors: [u8; 400],
     code: [Line; 2000],
 ) -> usize
-    requires { (count ≤ 400) × (lines ≤ 2000) × (length (spellFile 2 (shownIn count lines kinds sizes colors code)) ≤ length room.old) }
-    ensures place { result ≡ length (spellFile 2 (shownIn count lines kinds sizes colors code)) }
-    ensures room { room.new ≡ sets room.old 0 (spellFile 2 (shownIn count lines kinds sizes colors code)) }
+    requires { (count ≤ 400) × (lines ≤ 2000) × (length (spell_file 2 (shown_in count lines kinds sizes colors code)) ≤ length room.old) }
+    ensures place { result ≡ length (spell_file 2 (shown_in count lines kinds sizes colors code)) }
+    ensures room { room.new ≡ sets room.old 0 (spell_file 2 (shown_in count lines kinds sizes colors code)) }
 {
     let past_version = put(room, 0, 2);
     let past_count = put(room, past_version, count as u32);

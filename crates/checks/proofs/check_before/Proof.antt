@@ -1,5 +1,5 @@
 -- `check_before` meets its contract: by the instruction's nature.
-use Rattle.checks.proofs.Cases.{check-own, check-listed, check-none}
+use Rattle.checks.proofs.Cases.{check_own, check_listed, check_none}
 use borrow.Author.Rules.{rules}
 use Rattle.checks.proofs.check_before.Statement.{statement}
 use Rattle.checks.proofs.check_before.Tie as tie
@@ -34,7 +34,7 @@ returns c =
     let n = c.before.before.before.before.before.nature-of in
     let g = c.before.before.before.nature.given in
     let color = c.before.color-of in
-    check-own a.sizes.now a.colors.now a.ends.now a.members.now a.i n.result n.ensures
+    check_own a.sizes.now a.colors.now a.ends.now a.members.now a.i n.result n.ensures
     g.0.0 color.result c.check-of.result g.1 color.ensures c.check-of.ensures
 
 returns-2 : tie.Need-returns-2
@@ -44,14 +44,14 @@ returns-2 c =
     let s = c.before.before.before.before.nature2.given in
     let first = c.before.before.first_of in
     let color = c.before.color-of2 in
-    check-listed a.sizes.now a.colors.now a.ends.now a.members.now a.i n.result n.ensures
+    check_listed a.sizes.now a.colors.now a.ends.now a.members.now a.i n.result n.ensures
     s.0.0 first.result color.result c.check-of2.result s.1 first.ensures color.ensures c.check-of2.ensures
 
 returns-3 : tie.Need-returns-3
 returns-3 c =
     let a = c.before.before.before.before.before.args in
     let n = c.before.nature-of in
-    check-none a.sizes.now a.colors.now a.ends.now a.members.now a.i n.result n.ensures c.match.keys3
+    check_none a.sizes.now a.colors.now a.ends.now a.members.now a.i n.result n.ensures c.match.keys3
 
 pub check-before-spec : {M : Type 1} → statement M
 check-before-spec =

@@ -3,7 +3,7 @@ use mathlib.Core.Path.{sym, ap, ◌∙◌}
 use Prim.Native.Nat.{ℕ}
 use lib.ListN.{get_or}
 use Rattle.opcodes.specs.declared.Instr.TheVariants.{Jump, JumpIf}
-use Rattle.checks.proofs.Cases.{copied-whole}
+use Rattle.checks.proofs.Cases.{copied_whole}
 use borrow.Author.Rules.{rules}
 use Rattle.checks.proofs.copy_of.Statement.{statement}
 use Rattle.checks.proofs.copy_of.Tie as tie
@@ -40,7 +40,7 @@ returns-4 : tie.Need-returns-4
 returns-4 c = ap (λ (t : ℕ). JumpIf c.before.before.i4.given.0.0 t) c.place-of2.ensures ∙ sym (ap (moved (λ t. get_or c.before.before.before.before.before.args.places.now t 0)) c.before.before.i4.given.1)
 
 returns-5 : tie.Need-returns-5
-returns-5 c = copied-whole (λ t. get_or c.before.before.args.places.now t 0) c.before.before.args.i c.match.keys5
+returns-5 c = copied_whole (λ t. get_or c.before.before.args.places.now t 0) c.before.before.args.i c.match.keys5
 
 pub copy-of-spec : {M : Type 1} → statement M
 copy-of-spec =

@@ -1,6 +1,6 @@
 -- `paint` meets its contract: its calls are the definition's steps.
 use mathlib.Core.Path.{sym, ◌∙◌}
-use Rattle.coloring.proofs.Turns.{labels_from, painting-many, painting-few}
+use Rattle.coloring.proofs.Turns.{labels_from, painting_many, painting_few}
 use borrow.Author.Rules.{rules}
 use Rattle.coloring.proofs.paint.Statement.{statement}
 use Rattle.coloring.proofs.paint.Tie as tie
@@ -24,7 +24,7 @@ returns c =
     let joined = c.before.before.before.before.unite-sets in
     c.too_many.ensures
     ∙ sym
-    (painting-many
+    (painting_many
     r
     joined.new.0
     c.before.before.count-classes.result
@@ -41,15 +41,15 @@ returns-2 c =
     let marked = c.before.before.before.before.before.before.before.before.before.before.before.before.mark-all in
     let joined = c.before.before.before.before.before.unite-sets in
     sym
-    (painting-few
+    (painting_few
     r
     joined.new.0
-    c.colors-of.result
+    c.colors_of.result
     c.before.before.before.count-classes.result
     (labels_from r marked.new.1.1.1.0 joined.new.0 marked.new.1.1.1.1.0 marked.ensures.0 marked.ensures.1 joined.ensures)
     c.before.before.before.count-classes.ensures
     c.before.before.if1.false
-    c.colors-of.ensures)
+    c.colors_of.ensures)
 
 pub paint-spec : {M : Type 1} → statement M
 paint-spec =

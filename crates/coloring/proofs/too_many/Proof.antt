@@ -1,11 +1,11 @@
 -- `too_many` meets its contract: what it makes is the blank routine.
 use mathlib.Core.Path.{refl}
-use Rattle.files.specs.Held.{endsFrom, joined, filled}
+use Rattle.files.specs.Held.{ends_from, joined, filled}
 use Rattle.coloring.proofs.too_many.Statement.{statement}
 use Rattle.coloring.proofs.too_many.Tie as tie
 
 returns : tie.Need-returns
-unfolding endsFrom joined filled
+unfolding ends_from joined filled
 returns c = refl
 
 pub too-many-spec : {M : Type 1} → statement M

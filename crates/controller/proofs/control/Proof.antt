@@ -3,10 +3,10 @@ use mathlib.Core.Path.{◌≡◌, sym, ap, ◌∙◌}
 use lib.ListN.{length}
 use borrow.Author.Rules.{rules}
 use borrow.Author.Tests.{not-true, not-false}
-use Rattle.memory.proofs.Exact.{exact-lengths}
+use Rattle.memory.proofs.Exact.{exact_lengths_lem}
 use Rattle.stops.specs.declared.Run.{Run}
 use Rattle.machine.specs.Running.{answered, lent_of}
-use Rattle.controller.proofs.Controlled.{wrong-lengths}
+use Rattle.controller.proofs.Controlled.{wrong_lengths}
 use Rattle.controller.proofs.control.Statement.{statement}
 use Rattle.controller.proofs.control.Tie as tie
 
@@ -27,7 +27,7 @@ returns c =
     let a = c.before.before.before.before.before.before.before.before.before.before.args in
     ap (λ (r : Run). answered r (lent_of a.memory.now a.table.now a.room.now)) c.refused.ensures
     ∙ sym
-    (wrong-lengths a.file.now a.input.now a.limit a.memory.now a.table.now a.room.now
+    (wrong_lengths a.file.now a.input.now a.limit a.memory.now a.table.now a.room.now
     (sym c.before.before.are-exact.ensures ∙ not-true _ c.before.if1.true))
 
 abbrev entry : tie.Else1 → tie.Start
@@ -36,7 +36,7 @@ entry c = c.before.before.before.before.before.before.before.before.before
 lengths : (c : tie.Else1) → (length (entry c).args.memory.now ≡ 57344) × (length (entry c).args.table.now ≡ 7168)
 lengths c =
     let a = (entry c).args in
-    exact-lengths a.memory.now a.table.now (sym c.before.are-exact.ensures ∙ not-false _ c.if1.false)
+    exact_lengths_lem a.memory.now a.table.now (sym c.before.are-exact.ensures ∙ not-false _ c.if1.false)
 
 instrument-and-run-requires : tie.Need-instrument-and-run-requires
 instrument-and-run-requires c κs = lengths c.before.before.before

@@ -2,9 +2,9 @@ use borrow.Author.Rules.{rules}
 use mathlib.Core.Path.{sym, ap, ◌∙◌}
 use lib.Seq.{length-take-le}
 use Rattle.stops.specs.declared.Run.{Run}
-use Rattle.stops.specs.Stop.{refusedRun}
-use Rattle.controller.specs.Inside.{whyNot}
-use Rattle.controller.proofs.Controlled.{refused-so, written-so}
+use Rattle.stops.specs.Stop.{refused_run}
+use Rattle.controller.specs.Inside.{why_not}
+use Rattle.controller.proofs.Controlled.{refused_so, written_so}
 use Rattle.controller.proofs.instrument_and_run.Statement.{statement}
 use Rattle.controller.proofs.instrument_and_run.Tie as tie
 use Rattle.machine.specs.Running.{answered, lent_of}
@@ -36,15 +36,15 @@ returns c =
     let called = c.before.before.before.before.before.instrument.ensures in
     let told = c.before.before.enum_told.given.1 in
     ap (λ (r : Run). answered r (lent_of s.args.memory.now s.args.table.now s.args.room.now))
-    (c.refused.ensures ∙ ap refusedRun (c.before.why-not.ensures ∙ ap whyNot told))
-    ∙ sym (refused-so s.args.file.now s.args.input.now s.args.limit s.args.memory.now s.args.table.now s.args.room.now
+    (c.refused.ensures ∙ ap refused_run (c.before.why-not.ensures ∙ ap why_not told))
+    ∙ sym (refused_so s.args.file.now s.args.input.now s.args.limit s.args.memory.now s.args.table.now s.args.room.now
     s.requires.0 s.requires.1 c.before.before.before.before.before.before.before.blank-room.result c.before.before.before.before.before.before.before.blank-room.ensures _ (sym called.0 ∙ told))
 
 array-share-prefix-code : tie.Need-array-share-prefix-code
 array-share-prefix-code c =
     let s = c.before.before.before.before.before.before.before.before.before.before.before.before in
     let called = c.before.before.before.before.instrument.ensures in
-    (written-so s.args.file.now s.args.input.now s.args.limit s.args.memory.now s.args.table.now s.args.room.now
+    (written_so s.args.file.now s.args.input.now s.args.limit s.args.memory.now s.args.table.now s.args.room.now
     s.requires.0 s.requires.1 c.before.before.before.before.before.before.blank-room.result c.before.before.before.before.before.before.blank-room.ensures _ _ (sym called.0 ∙ c.before.answer.given.1) called.1).0
 
 slice-aggregate-run-file : tie.Need-slice-aggregate-run-file
@@ -67,7 +67,7 @@ returns-2 c =
     let s = c.before.before.before.before.before.before.before.before.before.before.before.before.before.before.before.before.before.before.before.before.before.before.before in
     let called = c.before.before.before.before.before.before.before.before.before.before.before.before.before.before.before.instrument.ensures in
     c.before.before.before.before.before.before.run-file.ensures
-    ∙ (written-so s.args.file.now s.args.input.now s.args.limit s.args.memory.now s.args.table.now s.args.room.now
+    ∙ (written_so s.args.file.now s.args.input.now s.args.limit s.args.memory.now s.args.table.now s.args.room.now
     s.requires.0 s.requires.1 c.before.before.before.before.before.before.before.before.before.before.before.before.before.before.before.before.before.blank-room.result c.before.before.before.before.before.before.before.before.before.before.before.before.before.before.before.before.before.blank-room.ensures _ _ (sym called.0 ∙ c.before.before.before.before.before.before.before.before.before.before.before.before.answer.given.1) called.1).1
 
 pub instrument-and-run-spec : {M : Type 1} → statement M

@@ -1,7 +1,7 @@
 use borrow.Author.Rules.{rules}
 use mathlib.Core.Path.{ap, ◌∙◌}
 use Rattle.machine.specs.Running.{Answer}
-use Rattle.stops.specs.Stop.{fiveOf}
+use Rattle.stops.specs.Stop.{five_of}
 use Rattle.controller.proofs.toltjebrim_control.Statement.{statement}
 use Rattle.controller.proofs.toltjebrim_control.Tie as tie
 
@@ -23,7 +23,7 @@ same-length-3 c = search rules
 returns : tie.Need-returns
 returns c =
     let whole = c.before.before.before.before.before.before.before.control.ensures in
-    (c.Numbers-of.ensures ∙ ap (λ (a : Answer). fiveOf a.run) whole, ap (λ (a : Answer). a.lent) whole)
+    (c.Numbers-of.ensures ∙ ap (λ (a : Answer). five_of a.run) whole, ap (λ (a : Answer). a.lent) whole)
 
 pub toltjebrim-control-spec : {M : Type 1} → statement M
 toltjebrim-control-spec =

@@ -1,6 +1,6 @@
 use borrow.Author.Rules.{rules}
 use mathlib.Core.Path.{sym, ap}
-use Rattle.controller.specs.Inside.{whyNot}
+use Rattle.controller.specs.Inside.{why_not}
 use Rattle.controller.proofs.why_not.Statement.{statement}
 use Rattle.controller.proofs.why_not.Tie as tie
 
@@ -11,7 +11,7 @@ enum-known-answer : tie.Need-enum-known-answer
 enum-known-answer c = search rules
 
 returns : tie.Need-returns
-returns c = sym (ap whyNot c.enum_told.given.1)
+returns c = sym (ap why_not c.enum_told.given.1)
 
 returns-2 : tie.Need-returns-2
 returns-2 c = search rules

@@ -1,6 +1,6 @@
 -- `instrument` meets its contract: at each return what is known is the reason for the answer.
 use mathlib.Core.Path.{sym, ◌∙◌}
-use Rattle.instrumenter.proofs.Told.{told-refused, kept, lines-few, told-overfull, fits-held, told-written, told-cramped}
+use Rattle.instrumenter.proofs.Told.{told_refused, kept, lines_few, told_overfull, fits_held, told_written, told_cramped}
 use borrow.Author.Rules.{rules}
 use Rattle.instrumenter.proofs.instrument.Statement.{statement}
 use Rattle.instrumenter.proofs.instrument.Tie as tie
@@ -17,7 +17,7 @@ returns c =
     let read = c.before.before.before.read-colored in
     let bytes = s.args.file.now in
     let room = s.args.room.now in
-    told-refused bytes room read.result _ read.ensures c.before.outcome.given.1
+    told_refused bytes room read.result _ read.ensures c.before.outcome.given.1
 
 enum_told : tie.Need-enum-told
 enum_told c = search rules
@@ -33,14 +33,14 @@ returns-2 c =
     let room = s.args.room.now in
     let k = kept bytes read.result read.ensures c.before.before.before.before.before.before.before.before.match.keys2 in
     let laid = c.before.before.lay-out in
-    told-overfull bytes read.result k room laid.result laid.ensures c.if1.true
+    told_overfull bytes read.result k room laid.result laid.ensures c.if1.true
 
 version-2-requires : tie.Need-version-2-requires
 version-2-requires c κs =
     let read = c.before.before.before.before.before.before.before.before.before.read-colored in
     let bytes = c.before.before.before.before.before.before.before.before.before.before.before.before.args.file.now in
     let k = kept bytes read.result read.ensures c.before.before.before.before.before.before.before.before.match.keys2 in
-    lines-few bytes read.result k
+    lines_few bytes read.result k
 
 write-program-requires : tie.Need-write-program-requires
 write-program-requires c κs = search rules
@@ -61,8 +61,8 @@ returns-3 c =
     let laid = c.before.before.before.before.before.before.before.before.before.before.lay-out in
     let v = c.before.before.before.before.before.before.before.version-2 in
     let w = c.before.before.before.before.before.write-program in
-    let fit = fits-held bytes read.result k laid.result laid.ensures c.before.before.before.before.before.before.before.before.if1.false in
-    told-written bytes read.result k v.result v.ensures fit room _ _ (sym w.ensures.0 ∙ c.before.bytes.given.1) w.ensures.1
+    let fit = fits_held bytes read.result k laid.result laid.ensures c.before.before.before.before.before.before.before.before.if1.false in
+    told_written bytes read.result k v.result v.ensures fit room _ _ (sym w.ensures.0 ∙ c.before.bytes.given.1) w.ensures.1
 
 same-length-2 : tie.Need-same-length-2
 same-length-2 c = search rules
@@ -77,8 +77,8 @@ returns-4 c =
     let laid = c.before.before.before.before.before.before.before.before.lay-out in
     let v = c.before.before.before.before.before.version-2 in
     let w = c.before.before.before.write-program in
-    let fit = fits-held bytes read.result k laid.result laid.ensures c.before.before.before.before.before.before.if1.false in
-    told-cramped bytes read.result k v.result v.ensures fit room _ _ w.ensures.0 c.match2.keys2 w.ensures.1
+    let fit = fits_held bytes read.result k laid.result laid.ensures c.before.before.before.before.before.before.if1.false in
+    told_cramped bytes read.result k v.result v.ensures fit room _ _ w.ensures.0 c.match2.keys2 w.ensures.1
 
 pub instrument-spec : {M : Type 1} → statement M
 instrument-spec =

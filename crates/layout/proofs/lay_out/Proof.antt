@@ -2,7 +2,7 @@
 use mathlib.Core.Path.{◌∙◌, ap}
 use borrow.Author.Rules.{rules}
 use Rattle.files.specs.Held.{tabulate}
-use Rattle.layout.specs.Arrays.{piece_at, piecesIn, layout_of}
+use Rattle.layout.specs.Arrays.{piece_at, pieces_in, layout_of}
 use Rattle.layout.proofs.lay_out.Statement.{statement}
 use Rattle.layout.proofs.lay_out.Tie as tie
 
@@ -22,7 +22,7 @@ place-all-requires : tie.Need-place-all-requires
 place-all-requires c κs = search rules
 
 returns : tie.Need-returns
-unfolding piecesIn
+unfolding pieces_in
 returns c = let s = c.before.before.before.args in
     c.place-all.ensures ∙ ap (λ n. layout_of (tabulate (piece_at s.kinds.now s.sizes.now s.colors.now) 0 n))
     c.before.before.at-most-400.ensures.0

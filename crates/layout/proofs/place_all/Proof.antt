@@ -5,7 +5,7 @@ use mathlib.Core.Path.{refl}
 use native.Mathlib.Omega.{arith}
 use Rattle.files.specs.Held.{filled}
 use Rattle.layout.specs.Arrays.{piece_at}
-use Rattle.layout.proofs.Pieces.{Placed, placed-none, placed-more, placed-all}
+use Rattle.layout.proofs.Pieces.{Placed, placed_none, placed_more, placed_all}
 use Rattle.layout.proofs.place_all.Statement.{statement}
 use Rattle.layout.proofs.place_all.Tie as tie
 
@@ -18,7 +18,7 @@ decreases-loop kinds sizes colors objects from starts₀ safe-at₀ unsafe-at₀
 
 loop-holds : tie.Need-loop-init invariant-loop decreases-loop
 unfolding filled
-loop-holds c = (omega arith, c.requires.1.1, placed-none _ _ _ _ refl c.requires.1.0)
+loop-holds c = (omega arith, c.requires.1.1, placed_none _ _ _ _ refl c.requires.1.0)
 
 element-copy-out-kind : tie.Need-element-copy-out-kind invariant-loop decreases-loop
 element-copy-out-kind c = omega (arith, c.loop-test.true, c.before.before.requires.0)
@@ -66,7 +66,7 @@ loop-again c = let w = c.before.before.before.before.before.before.before.loop i
     let s = c.before.before.before.before.before.before.before.before.args in (
       omega (arith, w.invariant.0, c.before.safe-space.ensures.1),
       omega (arith, w.invariant.1, c.unsafe-space.ensures.1),
-      placed-more (piece_at s.kinds.now s.sizes.now s.colors.now) s.objects w.invariant.2
+      placed_more (piece_at s.kinds.now s.sizes.now s.colors.now) s.objects w.invariant.2
           c.before.before.before.before.before.before.loop-test.true
           c.before.before.before.before.before.before.before.before.requires.0 c.before.before.start_of_lem.result
           c.before.safe-space.result c.unsafe-space.result
@@ -74,7 +74,7 @@ loop-again c = let w = c.before.before.before.before.before.before.before.loop i
     )
 
 returns : tie.Need-returns invariant-loop decreases-loop
-returns c = let s = c.before.before.args in placed-all (piece_at s.kinds.now s.sizes.now s.colors.now) s.objects
+returns c = let s = c.before.before.args in placed_all (piece_at s.kinds.now s.sizes.now s.colors.now) s.objects
     c.before.loop.invariant.2 c.loop-test.false
 
 pub place-all-spec : {M : Type 1} → statement M

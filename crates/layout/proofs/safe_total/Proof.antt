@@ -3,7 +3,7 @@ use Prim.Native.Nat.{◌*◌, ◌-◌, ◌≤◌}
 use mathlib.Core.Path.{◌≡◌, refl, ap, ◌∙◌}
 use native.Mathlib.Omega.{arith}
 use Rattle.files.specs.Held.{tabulate}
-use Rattle.layout.specs.Layout.{safeSpace, total}
+use Rattle.layout.specs.Layout.{safe_space, total}
 use Rattle.layout.specs.Arrays.{piece_at}
 use Rattle.layout.proofs.Pieces.{sum_more}
 use Rattle.layout.proofs.safe_total.Statement.{statement}
@@ -11,7 +11,7 @@ use Rattle.layout.proofs.safe_total.Tie as tie
 
 abbrev invariant-loop : tie.invariant-loop
 invariant-loop kinds sizes colors objects sum₀ g₀ sum g = (g ≤ objects) × (sum ≤ 65536 * g) ×
-    (sum ≡ total (safeSpace 0) (tabulate (piece_at kinds sizes colors) 0 g))
+    (sum ≡ total (safe_space 0) (tabulate (piece_at kinds sizes colors) 0 g))
 
 abbrev decreases-loop : tie.decreases-loop
 decreases-loop kinds sizes colors objects sum₀ g₀ sum g = objects - g
@@ -48,13 +48,13 @@ loop-again : tie.Need-loop-preserved invariant-loop decreases-loop
 loop-again c = let w = c.before.before.before.before.before.loop in (
   omega (arith, c.before.before.before.before.loop-test.true),
   omega arith,
-  sum_more _ (safeSpace 0) w.g w.sum c.safe-space.result w.invariant.2 c.safe-space.ensures.0,
+  sum_more _ (safe_space 0) w.g w.sum c.safe-space.result w.invariant.2 c.safe-space.ensures.0,
 )
 
 returns : tie.Need-returns invariant-loop decreases-loop
 returns c = let s = c.before.before.args in
     let e : c.before.loop.g ≡ s.objects = omega arith in (
-      c.before.loop.invariant.2 ∙ ap (λ n. total (safeSpace 0)
+      c.before.loop.invariant.2 ∙ ap (λ n. total (safe_space 0)
           (tabulate (piece_at s.kinds.now s.sizes.now s.colors.now) 0 n)) e,
       omega (arith, c.before.before.requires),
     )

@@ -1,10 +1,10 @@
 -- `machine::run_file` meets its contract. Each return by its law of Loading.
 use Rattle.std.proofs.Common.{◌≡◌, length, sym, ◌∙◌, rules}
 use borrow.Author.Tests.{not-true, not-false}
-use Rattle.memory.specs.Memory.{memorySize, tableSize}
-use Rattle.memory.proofs.Exact.{exact-lengths}
+use Rattle.memory.specs.Memory.{memory_size, table_size}
+use Rattle.memory.proofs.Exact.{exact_lengths_lem}
 use Rattle.machine.specs.Running.{lent_of}
-use Rattle.machine.proofs.Loading.{wrong-lengths, refuses, runnable, runs-whole}
+use Rattle.machine.proofs.Loading.{wrong_lengths, refuses, runnable, runs_whole}
 use Rattle.machine.proofs.run_file.Statement.{statement}
 use Rattle.machine.proofs.run_file.Tie as tie
 
@@ -22,16 +22,16 @@ same-length-2 c = search rules
 
 returns : tie.Need-returns
 returns c = let a = c.before.before.before.before.before.before.before.before.before.before.args in
-    wrong-lengths a.file.now a.input.now a.limit (lent_of a.memory.now a.table.now a.room.now)
+    wrong_lengths a.file.now a.input.now a.limit (lent_of a.memory.now a.table.now a.room.now)
     (sym c.before.before.are-exact.ensures ∙ not-true _ c.before.if1.true) c.refused.ensures
 
 abbrev entry : tie.Else1 → tie.Start
 entry c = c.before.before.before.before.before.before.before.before.before
 
-lengths : (c : tie.Else1) → (length (entry c).args.memory.now ≡ memorySize) × (length (entry c).args.table.now ≡ tableSize)
+lengths : (c : tie.Else1) → (length (entry c).args.memory.now ≡ memory_size) × (length (entry c).args.table.now ≡ table_size)
 lengths c =
     let a = (entry c).args in
-    exact-lengths a.memory.now a.table.now (sym c.before.are-exact.ensures ∙ not-false _ c.if1.false)
+    exact_lengths_lem a.memory.now a.table.now (sym c.before.are-exact.ensures ∙ not-false _ c.if1.false)
 
 read-program-requires : tie.Need-read-program-requires
 read-program-requires c κs = search rules
@@ -75,7 +75,7 @@ same-length-7 c = search rules
 returns-3 : tie.Need-returns-3
 returns-3 c = let a = c.before.before.before.before.before.before.before.before.before.before.before.before.before.before.before.before.before.before.before.before.before.before.args in
     let both = lengths c.before.before.before.before.before.before.before.before.before.before.before.before.before in
-    runs-whole a.file.now a.input.now a.limit (lent_of a.memory.now a.table.now a.room.now) both.0 both.1
+    runs_whole a.file.now a.input.now a.limit (lent_of a.memory.now a.table.now a.room.now) both.0 both.1
     c.before.before.before.before.before.before.before.before.before.before.before.before.read-program.ensures
     c.before.before.before.before.before.before.before.before.before.before.enum_told.given.1
     c.before.before.before.before.before.before.run-loaded.ensures

@@ -5,7 +5,7 @@ use Prim.Native.Nat.{◌+◌, ◌<◌, ◌^◌}
 use native.Mathlib.Omega.{arith}
 use borrow.Author.Rules.{rules}
 use Rattle.numbers.specs.Number.{width}
-use Rattle.numbers.proofs.Spelling.{width-last, width-more, width-most}
+use Rattle.numbers.proofs.Spelling.{width_last, width_more, width_most}
 use Rattle.numbers.proofs.number_width.Statement.{statement}
 use Rattle.numbers.proofs.number_width.Tie as tie
 
@@ -22,7 +22,7 @@ above-group-requires : tie.Need-above-group-requires invariant-loop decreases-lo
 above-group-requires c κs = search rules
 
 add-bytes : tie.Need-overflow-add-bytes invariant-loop decreases-loop
-add-bytes c = omega (arith, width-most c.before.before.before.args.n)
+add-bytes c = omega (arith, width_most c.before.before.before.args.n)
 
 loop-less : tie.Need-loop-smaller invariant-loop decreases-loop
 loop-less c = omega arith
@@ -30,11 +30,11 @@ loop-less c = omega arith
 loop-again : tie.Need-loop-preserved invariant-loop decreases-loop
 loop-again c =
     let l = c.before.before.loop in
-    let passed = width-more l.rest c.before.loop-test.true (omega (arith, l.invariant)) in
+    let passed = width_more l.rest c.before.loop-test.true (omega (arith, l.invariant)) in
     rw c.above-group.ensures (omega arith)
 
 returns : tie.Need-returns invariant-loop decreases-loop
-returns c = omega (arith, width-last c.before.loop.rest c.loop-test.false)
+returns c = omega (arith, width_last c.before.loop.rest c.loop-test.false)
 
 pub number-width-spec : {M : Type 1} → statement M
 number-width-spec =

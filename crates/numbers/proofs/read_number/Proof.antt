@@ -12,7 +12,7 @@ use borrow.Author.Tests.{ltb-true, ltb-false}
 use Rattle.numbers.specs.Number.{largest}
 use Rattle.numbers.specs.declared.Read.TheVariants.{Number}
 use Rattle.numbers.proofs.Reading.{Reading, start, end, early, over, followed, long, last}
-use Rattle.numbers.proofs.Reading.{joined, fits, shifted, may-stand, short, not_short}
+use Rattle.numbers.proofs.Reading.{joined, fits, shifted, may_stand, short, not_short}
 use Rattle.numbers.proofs.read_number.Statement.{statement}
 use Rattle.numbers.proofs.read_number.Tie as tie
 
@@ -57,7 +57,7 @@ joins c = shifted _ _ (limit c.before) c.before.before.before.before.loop.invari
 -- a last byte may stand as the group at hand
 last-most : (c : tie.Then4 invariant-loop decreases-loop) → byte c.before.before ≤ largest (group c.before.before)
 last-most c =
-    may-stand _ (limit c.before.before) (byte-most c.before.before)
+    may_stand _ (limit c.before.before) (byte-most c.before.before)
     (λ e. omega (arith, c.if4.true, four-bits c.before e))
 
 -- behind the test of the shortest form

@@ -10,7 +10,7 @@ use borrow.Author.Tests.{ltb-true, ltb-false}
 use Rattle.numbers.specs.Number.{width}
 use Rattle.numbers.specs.declared.Written.TheVariants.{Upto}
 use Rattle.numbers.proofs.Laws.{written, not_written}
-use Rattle.numbers.proofs.Writing.{Writing, start, inside, more, last-ends, last-leaves}
+use Rattle.numbers.proofs.Writing.{Writing, start, inside, more, last_ends, last_leaves}
 use Rattle.numbers.proofs.write_number.Statement.{statement}
 use Rattle.numbers.proofs.write_number.Tie as tie
 
@@ -76,7 +76,7 @@ returns-2 : tie.Need-returns-2 invariant-loop decreases-loop
 returns-2 c =
     let w = c.before.loop.invariant in
     let done = written _ _ _ w.fits in
-    (ap Upto (last-ends w c.loop-test.false) ∙ sym done.0, last-leaves w c.loop-test.false ∙ sym done.1)
+    (ap Upto (last_ends w c.loop-test.false) ∙ sym done.0, last_leaves w c.loop-test.false ∙ sym done.1)
 
 pub write-number-spec : {M : Type 1} → statement M
 write-number-spec =

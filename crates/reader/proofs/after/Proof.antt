@@ -31,7 +31,7 @@ use Rattle.numbers.specs.contracts.Cursor as K
 use Rattle.numbers.proofs.Cursor.TheLaws as K'
 use Rattle.reader.specs.declared.Reader.{Reader}
 use Rattle.reader.proofs.Reader.TheLaws as T'
-use Rattle.reader.proofs.Held.{row, type, laws, Own, held-twice, held_at}
+use Rattle.reader.proofs.Held.{row, type, laws, Own, held_twice, held_at}
 use Rattle.reader.specs.contracts.after.Key.{name as #reader·after}
 use Rattle.reader.specs.contracts.after as after
 use Rattle.reader.proofs.after.Statement as stated
@@ -59,7 +59,7 @@ module _ {M : Type 1} {𝓤 : Ura M} (𝓛 : Logic 𝓤) (mem : Memory → SProp
   exits =
       qed 𝓛 ((‵ (flft κ q) ⊛ ‵ ftrue) ∷ ‵ (owns (row (κ, tt) ∷ K.the_row ∷ []) (d, (c, tt)) at) ∷ []) ∵
       suffices ! _ (ends_at 𝓛 after.ended stayed (after.clauses 𝓛 mem run) (((κ, tt), (q, tt), tt, (d, (c, tt)), at), tt) (T'.lowered d') d' (tt, (tt, tt)) (tt, (tt, tt))) $ says ! (refl, refl) $
-      frame ! $ fsplit ! $ use1 𝓛 (‵ (Own κ d) ⊛ ‵ (Own κ d)) (held-twice 𝓛 κ d) $ split ! $ move ! (0 ∷ 2 ∷ []) $ fjoin ! $ frame ! $ by ! (held_at 𝓛 κ d c.at fits)
+      frame ! $ fsplit ! $ use1 𝓛 (‵ (Own κ d) ⊛ ‵ (Own κ d)) (held_twice 𝓛 κ d) $ split ! $ move ! (0 ∷ 2 ∷ []) $ fjoin ! $ frame ! $ by ! (held_at 𝓛 κ d c.at fits)
 
   module _ (C : Calls 𝓤 H) (Λ : Loops 𝓤 H) where
     walk : Holds (has_ty (T'.mir (named 0)) mach) × WT mach → Holds (has_ty K'.mir (K'.lowered c)) × WT (K'.lowered c) → ent 𝓤 (on_entry 𝓛 after.signature (κ, tt) (q, tt) (d, (c, tt)) at) (WpFn 𝓤 H C Λ code.function (mach ∷ K'.lowered c ∷ []) Post)

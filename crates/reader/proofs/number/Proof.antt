@@ -1,4 +1,4 @@
--- `reader::number` meets its contract: a walk of its MIR, by hand. The struct is taken apart (`held-apart`), and
+-- `reader::number` meets its contract: a walk of its MIR, by hand. The struct is taken apart (`held_apart`), and
 -- `number_from` is called on the slice and the number. All that the proof knows of it is that it meets its
 -- contract. The lifetime's token goes to it, and comes back.
 use mathlib.Core.Path.{◌≡◌, refl}
@@ -33,13 +33,13 @@ use denote.Triple.Table.{entered, cited}
 use denote.Triple.Walked.{says, Stays, stay_none, walk_of, Goes-none, Walks, ends_at, walked, walk_Meets}
 use denote.Exit.{yes}
 use denote.Triple.Clauses.{ensured, lasts}
-use Rattle.numbers.specs.Number.{readNumber}
+use Rattle.numbers.specs.Number.{read_number}
 use Rattle.numbers.specs.declared.Read.{Read}
 use Rattle.numbers.specs.contracts.Read as S
 use Rattle.numbers.proofs.Read.TheLaws as S'
 use Rattle.reader.specs.declared.Reader.{Reader}
 use Rattle.reader.proofs.Reader.TheLaws as T'
-use Rattle.reader.proofs.Held.{row, type, laws, slice_of, Own, OwnApart, held-apart}
+use Rattle.reader.proofs.Held.{row, type, laws, slice_of, Own, OwnApart, held_apart}
 use Rattle.reader.specs.contracts.number_from as work
 use Rattle.reader.proofs.number_from.Symbol as work-def
 use Rattle.reader.proofs.number_from.Symbol.{name as #reader·number-from}
@@ -64,7 +64,7 @@ module _ {M : Type 1} {𝓤 : Ura M} (𝓛 : Logic 𝓤) (mem : Memory → SProp
   mach = T'.lowered d
 
   abbrev found : Read
-  found = readNumber d.file.now d.at
+  found = read_number d.file.now d.at
 
   abbrev Post : Val → SProp 𝓤
   Post = (walk_of 𝓛 number.ended stayed (number.clauses 𝓛 mem run)).post (((κ, tt), (q, tt), tt, (d, tt), (mach ∷ [], tt)), tt)
@@ -80,7 +80,7 @@ module _ {M : Type 1} {𝓤 : Ura M} (𝓛 : Logic 𝓤) (mem : Memory → SProp
   apart : d.at < 2 ^ 64 → ent 𝓤 (on_entry 𝓛 number.signature (κ, tt) (q, tt) (d, tt) (mach ∷ [], tt)) (sep 𝓤 ((NumberFrom 𝓛 mem run).pre to) (sem 𝓛 (Own κ d)))
   apart fits =
       qed 𝓛 ((‵ (flft κ q) ⊛ ‵ ftrue) ∷ ‵ (owns (row (κ, tt) ∷ []) (d, tt) (mach ∷ [], tt)) ∷ []) ∵
-      move ! (1 ∷ []) $ fsplit ! $ move ! (1 ∷ []) $ drop ! $ use1 𝓛 (‵ (OwnApart κ d) ⊛ ‵ (Own κ d)) (held-apart 𝓛 κ d fits) $ split ! $
+      move ! (1 ∷ []) $ fsplit ! $ move ! (1 ∷ []) $ drop ! $ use1 𝓛 (‵ (OwnApart κ d) ⊛ ‵ (Own κ d)) (held_apart 𝓛 κ d fits) $ split ! $
       -- [what the fields own; what the struct owns; the token]
       move ! (2 ∷ 0 ∷ []) $ use2 𝓛 (raw ((NumberFrom 𝓛 mem run).pre to)) asked $ frame ! $ done !
 

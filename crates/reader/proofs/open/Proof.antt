@@ -1,6 +1,6 @@
 -- `reader::open` meets its contract: a walk of its MIR, by hand. A reader is made of the slice passed and 0, in
 -- the result's local. A slice is Copy: one copy of what it owns stays for the exit, and the other is in the
--- result (`held-made`).
+-- result (`held_made`).
 use mathlib.Core.Path.{refl}
 use Prim.Native.Nat.{ℕ}
 use mathlib.Core.List.{List, [], ◌∷◌}
@@ -33,7 +33,7 @@ use denote.Triple.Walked.{says, Stays, stay_none_slice, walk_of, Goes-none_slice
 use denote.Exit.{yes}
 use Rattle.reader.specs.declared.Reader.{Reader}
 use Rattle.reader.proofs.Reader.TheLaws as T'
-use Rattle.reader.proofs.Held.{slice_of, OwnSlice, held-made, slice-twice}
+use Rattle.reader.proofs.Held.{slice_of, OwnSlice, held_made, slice_twice}
 use Rattle.reader.specs.contracts.open.Key.{name as #reader·open}
 use Rattle.reader.specs.contracts.open as opening
 use Rattle.reader.proofs.open.Statement as stated
@@ -58,7 +58,7 @@ module _ {M : Type 1} {𝓤 : Ura M} (𝓛 : Logic 𝓤) (mem : Memory → SProp
   exits =
       qed 𝓛 ((‵ (flft κ q) ⊛ ‵ ftrue) ∷ ‵ (owns (ShrSlice (named 0) κ u8 ∷ []) (s, tt) at) ∷ []) ∵
       suffices ! _ (ends_at 𝓛 opening.ended stayed (opening.clauses 𝓛 mem run) (((κ, tt), (q, tt), tt, (s, tt), at), tt) (T'.lowered made) made (tt, tt) (tt, tt)) $ says ! (refl, refl) $
-      frame ! $ fsplit ! $ use1 𝓛 (‵ (OwnSlice κ s) ⊛ ‵ (OwnSlice κ s)) (slice-twice 𝓛 κ s) $ split ! $ move ! (0 ∷ 2 ∷ []) $ fjoin ! $ frame ! $ by ! (held-made 𝓛 κ s 0 (lit< tt))
+      frame ! $ fsplit ! $ use1 𝓛 (‵ (OwnSlice κ s) ⊛ ‵ (OwnSlice κ s)) (slice_twice 𝓛 κ s) $ split ! $ move ! (0 ∷ 2 ∷ []) $ fjoin ! $ frame ! $ by ! (held_made 𝓛 κ s 0 (lit< tt))
 
   module _ (C : Calls 𝓤 H) (Λ : Loops 𝓤 H) where
     walk : Is (ShrSlice (named 0) κ u8) s (slice_of s ∷ []) → ent 𝓤 (on_entry 𝓛 opening.signature (κ, tt) (q, tt) (s, tt) at) (WpFn 𝓤 H C Λ code.function (slice_of s ∷ []) Post)

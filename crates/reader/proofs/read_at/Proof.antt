@@ -42,7 +42,7 @@ use denote.Triple.Table.{entered, cited}
 use denote.Triple.Walked.{says, Stays, stay_none, stay_none_slice, walk_of, Goes-none, Goes-none_slice, Walks, ends_at, walked, walk_Meets}
 use denote.Exit.{yes}
 use denote.Triple.Clauses.{ensured, lasts}
-use Rattle.numbers.specs.Number.{readNumber}
+use Rattle.numbers.specs.Number.{read_number}
 use Rattle.numbers.specs.declared.Cursor.{Cursor}
 use Rattle.numbers.specs.declared.Read.{Read}
 use Rattle.numbers.specs.contracts.Cursor as K
@@ -52,7 +52,7 @@ use Rattle.numbers.proofs.Read.TheLaws as S'
 use Rattle.reader.specs.declared.Reader.{Reader}
 use Rattle.reader.specs.contracts.Reader as T
 use Rattle.reader.proofs.Reader.TheLaws as T'
-use Rattle.reader.proofs.Held.{row, slice_of, OwnSlice, slice-twice}
+use Rattle.reader.proofs.Held.{row, slice_of, OwnSlice, slice_twice}
 use Rattle.reader.specs.contracts.open as opening
 use Rattle.reader.proofs.open.Symbol as opening-def
 use Rattle.reader.proofs.open.Symbol.{name as #reader·open}
@@ -98,7 +98,7 @@ module _ {M : Type 1} {𝓤 : Ura M} (𝓛 : Logic 𝓤) (mem : Memory → SProp
   at = (v ∷ [], (k ∷ [], tt))
 
   abbrev found : Read
-  found = readNumber s.now c.at
+  found = read_number s.now c.at
 
   -- the struct's type as a local of a body has it
   abbrev αᵉ : NamedLft
@@ -124,7 +124,7 @@ module _ {M : Type 1} {𝓤 : Ura M} (𝓛 : Logic 𝓤) (mem : Memory → SProp
   goes-open : ent 𝓤 (on_entry 𝓛 read_at.signature (κ, tt) (q, tt) (s, (c, tt)) at) (sep 𝓤 ((Open 𝓛 mem run).pre to-open) (sep 𝓤 (sem 𝓛 OwnBoth) (sem 𝓛 OwnFrom)))
   goes-open =
       qed 𝓛 ((‵ (flft κ q) ⊛ ‵ ftrue) ∷ ‵ OwnBoth ∷ []) ∵
-      move ! (1 ∷ []) $ fsplit ! $ use1 𝓛 (‵ (OwnSlice κ s) ⊛ ‵ (OwnSlice κ s)) (slice-twice 𝓛 κ s) $ split ! $
+      move ! (1 ∷ []) $ fsplit ! $ use1 𝓛 (‵ (OwnSlice κ s) ⊛ ‵ (OwnSlice κ s)) (slice_twice 𝓛 κ s) $ split ! $
       move ! (2 ∷ []) $ fsplit ! $ use1 𝓛 (‵ OwnFrom ⊛ ‵ OwnFrom) ((LL.copy K.the_type K'.the_copy 𝓛).twice c (k ∷ [])) $ split ! $
       -- [what c owns; the same; nothing; what s owns; the same; the token]
       move ! (0 ∷ 2 ∷ []) $ fjoin ! $ move ! (2 ∷ 0 ∷ []) $ fjoin ! $
@@ -153,8 +153,8 @@ module _ {M : Type 1} {𝓤 : Ura M} (𝓛 : Logic 𝓤) (mem : Memory → SProp
   goes_number : (p : Reader) (u : Val) → ent 𝓤 (⋆ 𝓛 (‵ ((row (κ, tt)).own p (u ∷ [])) ∷ (‵ (flft κ q) ⊛ ‵ ftrue) ∷ [])) ((Number 𝓛 mem run).pre (to_number p u))
   goes_number p u = qed 𝓛 (‵ ((row (κ, tt)).own p (u ∷ [])) ∷ (‵ (flft κ q) ⊛ ‵ ftrue) ∷ []) ∵ nothing ! $ move ! (1 ∷ 0 ∷ []) $ fjoin ! $ move ! (1 ∷ 0 ∷ []) $ join ! $ frame ! $ done !
 
-  number-said : (p : Reader) (t : Read) → ent 𝓤 (ensured 𝓛 number.ended (number.clauses 𝓛 mem run) (κ, tt) (p, tt) tt t) (fact 𝓤 (t ≡ readNumber p.file.now p.at))
-  number-said p t = ex_e 𝓤 _ (λ ws. snd∗ 𝓤 (sem 𝓛 (lasts number.ended (κ, tt) (p, tt) ws)) (fact 𝓤 (t ≡ readNumber p.file.now p.at)))
+  number-said : (p : Reader) (t : Read) → ent 𝓤 (ensured 𝓛 number.ended (number.clauses 𝓛 mem run) (κ, tt) (p, tt) tt t) (fact 𝓤 (t ≡ read_number p.file.now p.at))
+  number-said p t = ex_e 𝓤 _ (λ ws. snd∗ 𝓤 (sem 𝓛 (lasts number.ended (κ, tt) (p, tt) ws)) (fact 𝓤 (t ≡ read_number p.file.now p.at)))
 
   exits : (t : Read) (u : Val) → t ≡ found → ent 𝓤 (⋆ 𝓛 (‵ ((S.the_row).own_val t (u ∷ [])) ∷ (‵ (flft κ q) ⊛ ‵ ftrue) ∷ ‵ OwnBoth ∷ [])) (Post u)
   exits t u e =
@@ -187,13 +187,13 @@ module _ {M : Type 1} {𝓤 : Ura M} (𝓛 : Logic 𝓤) (mem : Memory → SProp
         use2 𝓛 (raw ((Number 𝓛 mem run).pre (to_number b u'))) (goes_number b u') $
         calls_at ! fm (Number 𝓛 mem run) known-number (to_number b u') (and_then ! (load ! (from ! (stop !)) (look ! 4 refl)) (no_more !)) (λ u''.
         use1 𝓛 (later (some (λ (t : Read). ((‵ (flft κ q) ⊛ ‵ ftrue) ⊛ ‵ ((S.the_row).own_val t (u'' ∷ []))) ⊛ raw (ensured 𝓛 number.ended (number.clauses 𝓛 mem run) (κ, tt) (b, tt) tt t)))) (id⊢ 𝓤 _) $ await ! tt $ pick ! (λ t.
-        split ! $ move ! (1 ∷ []) $ use1 𝓛 (raw (fact 𝓤 (t ≡ readNumber b.file.now b.at))) (number-said b t) $ heard ! (t ≡ readNumber b.file.now b.at) (λ e''. split ! $ move ! (1 ∷ []) $
+        split ! $ move ! (1 ∷ []) $ use1 𝓛 (raw (fact 𝓤 (t ≡ read_number b.file.now b.at))) (number-said b t) $ heard ! (t ≡ read_number b.file.now b.at) (λ e''. split ! $ move ! (1 ∷ []) $
         -- [the result; the token; what both own; _4; …; _3; …; _2; …; _1; …; room for _0; …]
         peeks ! S.the_row (Is S.the_row) (shows 𝓛 S.the_row) t (u'' ∷ []) (λ is''.
         land ! (from ! (stop !)) (init ! 11 refl ((EL.lawful S.the_type S'.the_laws 𝓛 tt).typed t _ is'').0) $
         returns ! (look ! 11 refl) $ forget ! 3 refl $ forget ! 5 refl $ forget ! 7 refl $ forget ! 9 refl $ forget ! 11 refl $
         move ! (11 ∷ 12 ∷ []) $ free1 ! $ move ! (9 ∷ 10 ∷ []) $ free1 ! $ move ! (7 ∷ 8 ∷ []) $ free1 ! $ move ! (5 ∷ 6 ∷ []) $ free1 ! $ move ! (3 ∷ 4 ∷ []) $ free1 ! $ free0 ! $
-        by ! (exits t u'' (e'' ∙ (ap (λ (x : Bor (List ℕ)). readNumber x.now b.at) (e'.0 ∙ e.0) ∙ ap (readNumber s.now) e'.1))))))))))))))))))))
+        by ! (exits t u'' (e'' ∙ (ap (λ (x : Bor (List ℕ)). read_number x.now b.at) (e'.0 ∙ e.0) ∙ ap (read_number s.now) e'.1))))))))))))))))))))
 
 module _ {M : Type 1} {𝓤 : Ura M} (𝓛 : Logic 𝓤) (mem : Memory → SProp 𝓤) (run : Routine → Fun 𝓤) where
   open 𝓛 use {H}

@@ -2,8 +2,8 @@
 use mathlib.Core.Path.{sym, ◌∙◌}
 use mathlib.Core.Logic.{⊎_elim}
 use borrow.Author.Rules.{rules}
-use Rattle.safety.specs.Nature.{sizesIn}
-use Rattle.safety.proofs.Natures.{nature-whole, sizes-inside, sizes-past}
+use Rattle.safety.specs.Nature.{sizes_in}
+use Rattle.safety.proofs.Natures.{nature_whole, sizes_inside, sizes_past}
 use Rattle.safety.proofs.nature_of.Statement.{statement}
 use Rattle.safety.proofs.nature_of.Tie as tie
 
@@ -27,15 +27,15 @@ returns c =
     let r = c.before.before.before.parts-of in
     let sizes = c.before.before.before.before.args.sizes.now in
     c.by-opcode.ensures
-    ∙ nature-whole
-    (sizesIn sizes)
+    ∙ nature_whole
+    (sizes_in sizes)
     c.before.before.before.before.args.i
     r.result
     c.before.if1.size
     r.ensures
     (⊎_elim
-    (λ w. w.2 ∙ sym (sizes-inside sizes r.result.x w.0.taken))
-    (λ w. w.1 ∙ sym (sizes-past sizes r.result.x w.0.left))
+    (λ w. w.2 ∙ sym (sizes_inside sizes r.result.x w.0.taken))
+    (λ w. w.1 ∙ sym (sizes_past sizes r.result.x w.0.left))
     c.before.if1.branch)
 
 pub nature-of-spec : {M : Type 1} → statement M

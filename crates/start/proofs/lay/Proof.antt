@@ -1,7 +1,7 @@
 -- `start::lay` meets its contract. The layout is taken once, and its end decides.
 use mathlib.Core.Path.{refl}
 use borrow.Author.Rules.{rules}
-use Rattle.start.proofs.Starting.{refuses-long, lays-out}
+use Rattle.start.proofs.Starting.{refuses_long, lays_out}
 use Rattle.start.proofs.lay.Statement.{statement}
 use Rattle.start.proofs.lay.Tie as tie
 
@@ -10,7 +10,7 @@ lay-out-requires c κs = search rules
 
 returns : tie.Need-returns
 returns c = let a = c.before.before.before.before.before.before.before.before.before.args in
-    refuses-long a.t1 a.t2 a.t3 a.objects a.memory.now a.table.now c.before.before.before.lay-out.ensures c.if1.true refl
+    refuses_long a.t1 a.t2 a.t3 a.objects a.memory.now a.table.now c.before.before.before.lay-out.ensures c.if1.true refl
 
 start-requires : tie.Need-start-requires
 start-requires c κs = search rules
@@ -26,7 +26,7 @@ same-length-2 c = search rules
 
 returns-2 : tie.Need-returns-2
 returns-2 c = let a = c.before.before.before.before.before.before.before.before.before.before.before.before.before.before.before.before.before.args in
-    lays-out a.t1 a.t2 a.t3 a.objects a.memory.now a.table.now c.before.before.before.before.before.before.before.before.before.before.before.lay-out.ensures c.before.before.before.before.before.before.before.before.if1.false refl c.before.before.before.before.before.before.start.ensures c.before.before.lay-table.ensures
+    lays_out a.t1 a.t2 a.t3 a.objects a.memory.now a.table.now c.before.before.before.before.before.before.before.before.before.before.before.lay-out.ensures c.before.before.before.before.before.before.before.before.if1.false refl c.before.before.before.before.before.before.start.ensures c.before.before.lay-table.ensures
 
 pub lay-spec : {M : Type 1} → statement M
 lay-spec =

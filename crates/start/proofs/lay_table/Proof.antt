@@ -6,14 +6,14 @@ use borrow.Author.Tests.{ltb-true, ltb-false}
 use borrow.Author.Rules.{rules}
 use lib.ListN.{length}
 use Rattle.layout.specs.Arrays.{counted}
-use Rattle.start.specs.Held.{paintHeld}
-use Rattle.start.proofs.Starting.{counted-most, counted-there, counted-below, paint-next, paint-done, lays}
+use Rattle.start.specs.Held.{paint_held}
+use Rattle.start.proofs.Starting.{counted_most, counted_there, counted_below, paint_next, paint_done, lays}
 use Rattle.start.proofs.lay_table.Statement.{statement}
 use Rattle.start.proofs.lay_table.Tie as tie
 
 abbrev invariant-loop : tie.invariant-loop
 invariant-loop table₀ objects starts kinds sizes colors g₀ table g =
-    (paintHeld starts kinds sizes colors g (counted objects - g) table ≡ paintHeld starts kinds sizes colors 0 (counted objects) table₀)
+    (paint_held starts kinds sizes colors g (counted objects - g) table ≡ paint_held starts kinds sizes colors 0 (counted objects) table₀)
     × (g ≤ 400)
     × (length table ≡ length table₀)
 
@@ -24,7 +24,7 @@ fill-requires : tie.Need-fill-requires invariant-loop decreases-loop
 fill-requires c κs = search rules
 
 loop-holds : tie.Need-loop-init invariant-loop decreases-loop
-loop-holds c = (ap (λ (n : ℕ). paintHeld c.before.before.before.before.before.args.t2 c.before.before.before.before.before.args.t3 c.before.before.before.before.before.args.t4 c.before.before.before.before.before.args.t5 0 n c.before.before.fill.new.0) (omega arith), omega arith, refl)
+loop-holds c = (ap (λ (n : ℕ). paint_held c.before.before.before.before.before.args.t2 c.before.before.before.before.before.args.t3 c.before.before.before.before.before.args.t4 c.before.before.before.before.before.args.t5 0 n c.before.before.fill.new.0) (omega arith), omega arith, refl)
 
 array-read-paint-one : tie.Need-array-read-paint-one invariant-loop decreases-loop
 array-read-paint-one c = omega arith
@@ -57,7 +57,7 @@ loop-again : tie.Need-loop-preserved invariant-loop decreases-loop
 loop-again c = let a = c.before.before.before.before.before.before.before.before.before.before.before.before.args in
     let l = c.before.before.before.before.before.before.loop in
     let one : l.g < a.objects = ltb-true _ _ c.before.before.before.before.if1.true in (
-      paint-next a.t2 a.t3 a.t4 a.t5 l.g (counted a.objects) l.table c.before.before.paint-one.new.0 (counted-below a.objects l.g c.before.before.before.before.before.loop-test.true one) l.invariant.0 c.before.before.paint-one.ensures,
+      paint_next a.t2 a.t3 a.t4 a.t5 l.g (counted a.objects) l.table c.before.before.paint-one.new.0 (counted_below a.objects l.g c.before.before.before.before.before.loop-test.true one) l.invariant.0 c.before.before.paint-one.ensures,
       omega arith,
       c.before.before.paint-one.auto.0 ∙ l.invariant.2,
     )
@@ -75,8 +75,8 @@ returns : tie.Need-returns invariant-loop decreases-loop
 returns c = let a = c.before.before.before.before.before.before.before.before.before.before.before.before.before.before.before.args in
     let l = c.before.before.before.before.before.before.before.before.before.loop in
     let all : counted a.objects ≤ l.g =
-    ⊎_elim (λ w. omega (arith, counted-there a.objects, ltb-false l.g a.objects w.1.left)) (λ w. omega (arith, counted-most a.objects)) c.before.before.before.before.before.before.before.before.loop-test.branch in
-    lays a.t2 a.t3 a.t4 a.t5 a.objects a.table.now c.before.before.before.before.before.before.before.before.before.before.before.before.fill.ensures (paint-done a.t2 a.t3 a.t4 a.t5 l.g (counted a.objects) l.table all l.invariant.0)
+    ⊎_elim (λ w. omega (arith, counted_there a.objects, ltb-false l.g a.objects w.1.left)) (λ w. omega (arith, counted_most a.objects)) c.before.before.before.before.before.before.before.before.loop-test.branch in
+    lays a.t2 a.t3 a.t4 a.t5 a.objects a.table.now c.before.before.before.before.before.before.before.before.before.before.before.before.fill.ensures (paint_done a.t2 a.t3 a.t4 a.t5 l.g (counted a.objects) l.table all l.invariant.0)
     c.before.before.before.before.before.before.paint.ensures c.before.before.paint2.ensures
 
 pub lay-table-spec : {M : Type 1} → statement M

@@ -1,4 +1,4 @@
-use Rattle.start.proofs.Starting.{paints, paints-not}
+use Rattle.start.proofs.Starting.{paints, paints_not}
 use native.Mathlib.Omega.{arith}
 use borrow.Author.Rules.{rules}
 use Rattle.start.proofs.paint_one.Statement.{statement}
@@ -20,7 +20,7 @@ returns : tie.Need-returns
 returns c = let a = c.before.before.before.before.before.before.before.args in paints a.table.now a.kind a.start a.size a.color c.before.before.before.before.before.if1.true c.before.before.before.extent-of.ensures c.before.before.paint.ensures
 
 returns-2 : tie.Need-returns-2
-returns-2 c = let a = c.before.before.args in paints-not a.table.now a.kind a.start a.size a.color c.if1.false
+returns-2 c = let a = c.before.before.args in paints_not a.table.now a.kind a.start a.size a.color c.if1.false
 
 pub paint-one-spec : {M : Type 1} → statement M
 paint-one-spec =

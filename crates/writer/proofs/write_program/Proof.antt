@@ -8,10 +8,10 @@ use lib.ListN.{length}
 use lib.Dec.{leb}
 use borrow.Author.Tests.{le-leb, lt-leb, leb-true}
 use Rattle.files.specs.declared.Written.{Written}
-use Rattle.files.specs.Held.{writable, fileOf, writtenIn, roomWith, shown}
+use Rattle.files.specs.Held.{writable, file_of, written_in, room_with, shown}
 use Rattle.writer.specs.Inside.{sayable}
-use Rattle.files.proofs.Tests.{both-each}
-use Rattle.writer.proofs.Lengths.{was-good, was-bad}
+use Rattle.files.proofs.Tests.{both_each}
+use Rattle.writer.proofs.Lengths.{was_good, was_bad}
 use Rattle.writer.proofs.Putting.{front}
 use borrow.Author.Rules.{rules}
 use Rattle.writer.proofs.write_program.Statement.{statement}
@@ -31,42 +31,42 @@ abbrev sayable-of : tie.Start → Bool
 sayable-of s = sayable s.args.p.objects s.args.p.lines (shown s.args.p)
 
 returns : tie.Need-returns
-unfolding writtenIn roomWith writable
+unfolding written_in room_with writable
 returns c =
     let s = c.before.before.before.before.before.before.before.before in
-    let no : writable s.args.p ≡ false = was-bad (sayable-of s) (length (fileOf s.args.p)) c.before.before.file-length.ensures c.enum_told.given.1 in
-    (rw (no, writtenIn), rw (no, roomWith))
+    let no : writable s.args.p ≡ false = was_bad (sayable-of s) (length (file_of s.args.p)) c.before.before.file_length.ensures c.enum_told.given.1 in
+    (rw (no, written_in), rw (no, room_with))
 
 returns-2 : tie.Need-returns-2
-unfolding writtenIn roomWith writable
+unfolding written_in room_with writable
 returns-2 c =
     let s = c.before.before.before.before.before.before.before.before.before.before in
-    let f = was-good (sayable-of s) (length (fileOf s.args.p)) c.before.before.before.before.file-length.ensures c.before.before.measure.given.1 in
+    let f = was_good (sayable-of s) (length (file_of s.args.p)) c.before.before.before.before.file_length.ensures c.before.before.measure.given.1 in
     let yes : writable s.args.p ≡ true = f.good in
-    let small = lt-leb (length (fileOf s.args.p)) (length s.args.room.now) (omega (arith, f.long, c.if1.true)) in
-    (rw (yes, small, writtenIn), rw (yes, small, roomWith))
+    let small = lt-leb (length (file_of s.args.p)) (length s.args.room.now) (omega (arith, f.long, c.if1.true)) in
+    (rw (yes, small, written_in), rw (yes, small, room_with))
 
 put-file-requires : tie.Need-put-file-requires
 put-file-requires c κs =
     let s = c.before.before.before.before.before.before.before.before.before.before.before in
-    let f = was-good (sayable-of s) (length (fileOf s.args.p)) c.before.before.before.before.before.file-length.ensures c.before.before.before.measure.given.1 in
-    let a = both-each (leb s.args.p.objects 400) _ f.good in
-    let b = both-each (leb s.args.p.lines 2000) _ a.1 in
+    let f = was_good (sayable-of s) (length (file_of s.args.p)) c.before.before.before.before.before.file_length.ensures c.before.before.before.measure.given.1 in
+    let a = both_each (leb s.args.p.objects 400) _ f.good in
+    let b = both_each (leb s.args.p.lines 2000) _ a.1 in
     (leb-true s.args.p.objects 400 a.0, leb-true s.args.p.lines 2000 b.0, omega (arith, f.long, c.before.if1.false))
 
 same_length : tie.Need-same-length
 same_length c = search rules
 
 returns-3 : tie.Need-returns-3
-unfolding writtenIn roomWith writable
+unfolding written_in room_with writable
 returns-3 c =
     let s = c.before.before.before.before.before.before.before.before.before.before.before.before.before.before in
-    let f = was-good (sayable-of s) (length (fileOf s.args.p)) c.before.before.before.before.before.before.before.before.file-length.ensures c.before.before.before.before.before.before.measure.given.1 in
+    let f = was_good (sayable-of s) (length (file_of s.args.p)) c.before.before.before.before.before.before.before.before.file_length.ensures c.before.before.before.before.before.before.measure.given.1 in
     let yes : writable s.args.p ≡ true = f.good in
-    let h : length (fileOf s.args.p) ≤ length s.args.room.now = omega (arith, f.long, c.before.before.before.before.if1.false) in
-    let fits = le-leb (length (fileOf s.args.p)) (length s.args.room.now) h in (
-      ap Written.Upto c.before.before.put-file.ensures.0 ∙ sym (rw (yes, fits, writtenIn)),
-      c.before.before.put-file.ensures.1 ∙ front s.args.room.now (fileOf s.args.p) h ∙ sym (rw (yes, fits, roomWith)),
+    let h : length (file_of s.args.p) ≤ length s.args.room.now = omega (arith, f.long, c.before.before.before.before.if1.false) in
+    let fits = le-leb (length (file_of s.args.p)) (length s.args.room.now) h in (
+      ap Written.Upto c.before.before.put-file.ensures.0 ∙ sym (rw (yes, fits, written_in)),
+      c.before.before.put-file.ensures.1 ∙ front s.args.room.now (file_of s.args.p) h ∙ sym (rw (yes, fits, room_with)),
     )
 
 pub write-program-spec : {M : Type 1} → statement M

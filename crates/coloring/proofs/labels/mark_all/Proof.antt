@@ -2,8 +2,8 @@
 use Prim.Native.Nat.{ℕ, ◌≤◌, ◌<◌, ◌-◌, ◌+◌}
 use native.Mathlib.Omega.{arith}
 use mathlib.Core.Path.{◌≡◌, sym, ap, ◌∙◌}
-use Rattle.coloring.specs.Labels.{ownsMarked, usesMarked}
-use Rattle.coloring.proofs.Turns.{owns-turn, owns-done, uses-turn, uses-done}
+use Rattle.coloring.specs.Labels.{owns_marked, uses_marked}
+use Rattle.coloring.proofs.Turns.{owns_turn, owns_done_lem, uses_turn, uses_done_lem}
 use borrow.Author.Rules.{rules}
 use Rattle.coloring.proofs.labels.mark_all.Statement.{statement}
 use Rattle.coloring.proofs.labels.mark_all.Tie as tie
@@ -11,8 +11,8 @@ use Rattle.coloring.proofs.labels.mark_all.Tie as tie
 abbrev invariant-loop : tie.invariant-loop
 invariant-loop lines sizes labels₀ used₀ code at₀ labels used at =
     (at ≤ lines)
-    × (ownsMarked (lines - at) sizes code at labels ≡ ownsMarked lines sizes code 0 labels₀)
-    × (usesMarked (lines - at) sizes code at used ≡ usesMarked lines sizes code 0 used₀)
+    × (owns_marked (lines - at) sizes code at labels ≡ owns_marked lines sizes code 0 labels₀)
+    × (uses_marked (lines - at) sizes code at used ≡ uses_marked lines sizes code 0 used₀)
 
 abbrev decreases-loop : tie.decreases-loop
 decreases-loop lines sizes labels₀ used₀ code at₀ labels used at = lines - at
@@ -22,8 +22,8 @@ loop-holds c =
     let a = c.args in
     let e : a.lines - 0 ≡ a.lines = omega arith in (
       omega arith,
-      ap (λ (n : ℕ). ownsMarked n a.sizes.now a.t1 0 a.labels.now) e,
-      ap (λ (n : ℕ). usesMarked n a.sizes.now a.t1 0 a.used.now) e,
+      ap (λ (n : ℕ). owns_marked n a.sizes.now a.t1 0 a.labels.now) e,
+      ap (λ (n : ℕ). uses_marked n a.sizes.now a.t1 0 a.used.now) e,
     )
 
 mul-line : tie.Need-overflow-mul-line invariant-loop decreases-loop
@@ -47,11 +47,11 @@ loop-again c =
     let p = c.before.before.before.before.before.loop in
     let l : p.at < a.lines = omega arith in (
       omega arith,
-      ap (ownsMarked (a.lines - (p.at + 1)) a.sizes.now a.t1 (p.at + 1)) c.mark.ensures.0
-          ∙ sym (owns-turn a.lines p.at a.sizes.now a.t1 p.labels l)
+      ap (owns_marked (a.lines - (p.at + 1)) a.sizes.now a.t1 (p.at + 1)) c.mark.ensures.0
+          ∙ sym (owns_turn a.lines p.at a.sizes.now a.t1 p.labels l)
           ∙ p.invariant.1,
-      ap (usesMarked (a.lines - (p.at + 1)) a.sizes.now a.t1 (p.at + 1)) c.mark.ensures.1
-          ∙ sym (uses-turn a.lines p.at a.sizes.now a.t1 p.used l)
+      ap (uses_marked (a.lines - (p.at + 1)) a.sizes.now a.t1 (p.at + 1)) c.mark.ensures.1
+          ∙ sym (uses_turn a.lines p.at a.sizes.now a.t1 p.used l)
           ∙ p.invariant.2,
     )
 
@@ -60,8 +60,8 @@ returns c =
     let a = c.before.before.args in
     let p = c.before.loop in
     let l : a.lines ≤ p.at = omega arith in (
-      sym (owns-done a.lines p.at a.sizes.now a.t1 p.labels l) ∙ p.invariant.1,
-      sym (uses-done a.lines p.at a.sizes.now a.t1 p.used l) ∙ p.invariant.2,
+      sym (owns_done_lem a.lines p.at a.sizes.now a.t1 p.labels l) ∙ p.invariant.1,
+      sym (uses_done_lem a.lines p.at a.sizes.now a.t1 p.used l) ∙ p.invariant.2,
     )
 
 pub mark-all-spec : {M : Type 1} → statement M

@@ -6,7 +6,7 @@ use lib.ListN.{get_or, set}
 use native.Mathlib.Omega.{arith}
 use mathlib.Core.Path.{◌≡◌, refl, sym, ap, ◌∙◌}
 use Rattle.coloring.specs.Labels.{renamed, relabelled}
-use Rattle.coloring.proofs.Turns.{relabel-turn}
+use Rattle.coloring.proofs.Turns.{relabel_turn}
 use borrow.Author.Rules.{rules}
 use Rattle.coloring.proofs.labels.relabel.Statement.{statement}
 use Rattle.coloring.proofs.labels.relabel.Tie as tie
@@ -50,7 +50,7 @@ loop-again c =
       omega arith,
       ap (λ (v : ℕ). set p.labels p.i v) c.rename.ensures
           ∙ ap (λ (l : List ℕ). set l p.i (renamed a.from a.to (get_or l p.i 0))) e
-          ∙ relabel-turn a.from a.to p.i a.labels.now
+          ∙ relabel_turn a.from a.to p.i a.labels.now
           ∙ ap (λ (n : ℕ). relabelled a.from a.to n a.labels.now) (sym (add-one p.i)),
     )
 

@@ -1,7 +1,7 @@
 -- `unite` meets its contract, by its three cases.
 use native.Mathlib.Omega.{arith}
 use mathlib.Core.Path.{sym, ◌∙◌}
-use Rattle.coloring.proofs.Turns.{united-left, united-right, united-same}
+use Rattle.coloring.proofs.Turns.{united_left, united_right, united_same}
 use borrow.Author.Rules.{rules}
 use Rattle.coloring.proofs.labels.unite.Statement.{statement}
 use Rattle.coloring.proofs.labels.unite.Tie as tie
@@ -24,7 +24,7 @@ relabel-requires c κs = search rules
 returns : tie.Need-returns
 returns c =
     let a = c.before.before.before.before.before.args in
-    c.relabel.ensures ∙ sym (united-left a.labels.now a.a a.b c.before.before.if1.true)
+    c.relabel.ensures ∙ sym (united_left a.labels.now a.a a.b c.before.before.if1.true)
 
 relabel-requires-2 : tie.Need-relabel-requires-2
 relabel-requires-2 c κs = search rules
@@ -32,12 +32,12 @@ relabel-requires-2 c κs = search rules
 returns-2 : tie.Need-returns-2
 returns-2 c =
     let a = c.before.before.before.before.before.before.args in
-    c.relabel2.ensures ∙ sym (united-right a.labels.now a.a a.b c.before.before.if2.true)
+    c.relabel2.ensures ∙ sym (united_right a.labels.now a.a a.b c.before.before.if2.true)
 
 returns-3 : tie.Need-returns-3
 returns-3 c =
     let a = c.before.before.before.before.args in
-    sym (united-same a.labels.now a.a a.b (omega arith))
+    sym (united_same a.labels.now a.a a.b (omega arith))
 
 pub unite-spec : {M : Type 1} → statement M
 unite-spec =

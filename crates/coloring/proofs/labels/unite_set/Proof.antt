@@ -4,15 +4,15 @@ use native.Mathlib.Omega.{arith}
 use mathlib.Core.Path.{◌≡◌, refl, sym, ap, ◌∙◌}
 use mathlib.Core.List.{List}
 use lib.ListN.{get_or}
-use Rattle.coloring.specs.Labels.{united, spanJoined}
-use Rattle.coloring.proofs.Turns.{span-turn, span-done}
+use Rattle.coloring.specs.Labels.{united, span_joined}
+use Rattle.coloring.proofs.Turns.{span_turn, span_done}
 use borrow.Author.Rules.{rules}
 use Rattle.coloring.proofs.labels.unite_set.Statement.{statement}
 use Rattle.coloring.proofs.labels.unite_set.Tie as tie
 
 abbrev invariant-loop : tie.invariant-loop
 invariant-loop labels₀ members from to first i₀ labels i =
-    (i ≤ to) × (spanJoined (to - i) members first i labels ≡ spanJoined (to - from) members first from labels₀)
+    (i ≤ to) × (span_joined (to - i) members first i labels ≡ span_joined (to - from) members first from labels₀)
 
 abbrev decreases-loop : tie.decreases-loop
 decreases-loop labels₀ members from to first i₀ labels i = to - i
@@ -20,7 +20,7 @@ decreases-loop labels₀ members from to first i₀ labels i = to - i
 returns : tie.Need-returns invariant-loop decreases-loop
 returns c =
     let a = c.before.args in
-    sym (span-done a.to a.from a.members.now (get_or a.members.now a.from 0) a.labels.now c.if1.true)
+    sym (span_done a.to a.from a.members.now (get_or a.members.now a.from 0) a.labels.now c.if1.true)
 
 mul-first : tie.Need-overflow-mul-first invariant-loop decreases-loop
 mul-first c = omega arith
@@ -59,9 +59,9 @@ loop-again c =
     let first = get_or m a.from 0 in
     let l : p.i < a.to = omega arith in (
       omega arith,
-      ap (spanJoined (a.to - (p.i + 1)) m first (p.i + 1))
+      ap (span_joined (a.to - (p.i + 1)) m first (p.i + 1))
           (c.unite.ensures ∙ ap (λ (t : List ℕ). united t first (get_or m p.i 0)) c.before.before.touch.ensures)
-          ∙ sym (span-turn a.to p.i m first p.labels l)
+          ∙ sym (span_turn a.to p.i m first p.labels l)
           ∙ p.invariant.1,
     )
 
@@ -69,7 +69,7 @@ returns-2 : tie.Need-returns-2 invariant-loop decreases-loop
 returns-2 c =
     let a = c.before.before.before.before.args in
     let p = c.before.loop in
-    sym (span-done a.to p.i a.members.now (get_or a.members.now a.from 0) p.labels (omega arith)) ∙ p.invariant.1
+    sym (span_done a.to p.i a.members.now (get_or a.members.now a.from 0) p.labels (omega arith)) ∙ p.invariant.1
 
 pub unite-set-spec : {M : Type 1} → statement M
 unite-set-spec =

@@ -5,15 +5,15 @@ use mathlib.Core.Path.{◌≡◌, sym, ap, ◌∙◌}
 use mathlib.Core.Logic.{⊎_elim}
 use mathlib.Core.Bool.{Bool, false}
 use lib.ListN.{get_or}
-use Rattle.coloring.specs.Labels.{setJoined, setsJoined}
-use Rattle.coloring.proofs.Turns.{sets-turn, sets-done}
+use Rattle.coloring.specs.Labels.{set_joined, sets_joined}
+use Rattle.coloring.proofs.Turns.{sets_turn, sets_done_lem}
 use borrow.Author.Rules.{rules}
 use Rattle.coloring.proofs.labels.unite_sets.Statement.{statement}
 use Rattle.coloring.proofs.labels.unite_sets.Tie as tie
 
 abbrev invariant-loop : tie.invariant-loop
 invariant-loop labels₀ used ends members sets from₀ s₀ labels from s =
-    (s ≤ sets) × (setsJoined (sets - s) used ends members s from labels ≡ setsJoined sets used ends members 0 0 labels₀)
+    (s ≤ sets) × (sets_joined (sets - s) used ends members s from labels ≡ sets_joined sets used ends members 0 0 labels₀)
 
 abbrev decreases-loop : tie.decreases-loop
 decreases-loop labels₀ used ends members sets from₀ s₀ labels from s = sets - s
@@ -22,7 +22,7 @@ loop-holds : tie.Need-loop-init invariant-loop decreases-loop
 loop-holds c =
     let a = c.args in
     let e : a.sets - 0 ≡ a.sets = omega arith in
-    (omega arith, ap (λ (n : ℕ). setsJoined n a.used.now a.ends.now a.members.now 0 0 a.labels.now) e)
+    (omega arith, ap (λ (n : ℕ). sets_joined n a.used.now a.ends.now a.members.now 0 0 a.labels.now) e)
 
 mul-to : tie.Need-overflow-mul-to invariant-loop decreases-loop
 mul-to c = omega arith
@@ -56,14 +56,14 @@ loop-again c =
     let m = a.members.now in
     let to = get_or ends p.s 0 in
     let l : p.s < a.sets = omega arith in
-    let joined : c.if1.labels ≡ setJoined (get_or u p.s false) m p.from to p.labels = ⊎_elim
-    (λ w. w.3 ∙ w.2.ensures ∙ sym (ap (λ (b : Bool). setJoined b m p.from to p.labels) w.0.taken))
-    (λ w. w.1 ∙ sym (ap (λ (b : Bool). setJoined b m p.from to p.labels) w.0.left))
+    let joined : c.if1.labels ≡ set_joined (get_or u p.s false) m p.from to p.labels = ⊎_elim
+    (λ w. w.3 ∙ w.2.ensures ∙ sym (ap (λ (b : Bool). set_joined b m p.from to p.labels) w.0.taken))
+    (λ w. w.1 ∙ sym (ap (λ (b : Bool). set_joined b m p.from to p.labels) w.0.left))
     c.if1.branch
     in (
       omega arith,
-      ap (setsJoined (a.sets - (p.s + 1)) u ends m (p.s + 1) to) joined
-          ∙ sym (sets-turn a.sets p.s p.from u ends m p.labels l)
+      ap (sets_joined (a.sets - (p.s + 1)) u ends m (p.s + 1) to) joined
+          ∙ sym (sets_turn a.sets p.s p.from u ends m p.labels l)
           ∙ p.invariant.1,
     )
 
@@ -71,7 +71,7 @@ returns : tie.Need-returns invariant-loop decreases-loop
 returns c =
     let a = c.before.before.args in
     let p = c.before.loop in
-    sym (sets-done a.sets p.s p.from a.used.now a.ends.now a.members.now p.labels (omega arith)) ∙ p.invariant.1
+    sym (sets_done_lem a.sets p.s p.from a.used.now a.ends.now a.members.now p.labels (omega arith)) ∙ p.invariant.1
 
 pub unite-sets-spec : {M : Type 1} → statement M
 unite-sets-spec =

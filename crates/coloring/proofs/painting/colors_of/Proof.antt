@@ -4,8 +4,8 @@ use Prim.Native.Nat.{ℕ, ◌≤◌, ◌<◌, ◌-◌, ◌+◌}
 use native.Mathlib.Omega.{arith}
 use mathlib.Core.Path.{◌≡◌, refl, sym, ap, ◌∙◌}
 use lib.ListN.{get_or, set, replicate}
-use Rattle.coloring.specs.Labels.{leads, leaders, numberedFrom}
-use Rattle.coloring.proofs.Turns.{lead-most, leaders-most, leaders-turn, leaders-rise, numbered-turn, numbered-done}
+use Rattle.coloring.specs.Labels.{leads, leaders, numbered_from}
+use Rattle.coloring.proofs.Turns.{lead_most, leaders_most, leaders_turn, leaders_rise, numbered_turn, numbered_done}
 use borrow.Author.Rules.{rules}
 use Rattle.coloring.proofs.painting.colors_of.Statement.{statement}
 use Rattle.coloring.proofs.painting.colors_of.Tie as tie
@@ -14,7 +14,7 @@ abbrev invariant-loop : tie.invariant-loop
 invariant-loop labels objects colors₀ next₀ x₀ colors next x =
     (x ≤ objects)
     × (next ≡ 2 + leaders labels x)
-    × (numberedFrom (objects - x) labels x next colors ≡ numberedFrom objects labels 0 2 (replicate 400 0))
+    × (numbered_from (objects - x) labels x next colors ≡ numbered_from objects labels 0 2 (replicate 400 0))
 
 abbrev decreases-loop : tie.decreases-loop
 decreases-loop labels objects colors₀ next₀ x₀ colors next x = objects - x
@@ -26,7 +26,7 @@ loop-holds c =
     let e : a.objects - 0 ≡ a.objects = omega arith in (
       omega arith,
       refl,
-      ap (λ (n : ℕ). numberedFrom n a.labels.now 0 2 (replicate 400 0)) e,
+      ap (λ (n : ℕ). numbered_from n a.labels.now 0 2 (replicate 400 0)) e,
     )
 
 mul-label : tie.Need-overflow-mul-label invariant-loop decreases-loop
@@ -41,7 +41,7 @@ color-of-requires c κs =
     let a = c.before.before.before.before in
     let p = c.before.before.before.loop in
     let h : p.x < a.args.objects = omega arith in
-    omega (arith, p.invariant.1, leaders-rise a.args.labels.now p.x a.args.objects e h, a.requires.1)
+    omega (arith, p.invariant.1, leaders_rise a.args.labels.now p.x a.args.objects e h, a.requires.1)
 
 array-write-colors : tie.Need-array-write-colors invariant-loop decreases-loop
 array-write-colors c = omega arith
@@ -53,7 +53,7 @@ add-next : tie.Need-overflow-add-next invariant-loop decreases-loop
 add-next c =
     let l = c.before.before.before.before.before.before.args.labels.now in
     let p = c.before.before.before.before.before.loop in
-    omega (arith, c.leader.ensures, lead-most (get_or l p.x 0) p.x, leaders-most l p.x, p.invariant.1)
+    omega (arith, c.leader.ensures, lead_most (get_or l p.x 0) p.x, leaders_most l p.x, p.invariant.1)
 
 add-x : tie.Need-overflow-add-x invariant-loop decreases-loop
 add-x c = omega arith
@@ -68,10 +68,10 @@ loop-again c =
     let l = a.labels.now in
     let h : p.x < a.objects = omega arith in (
       omega arith,
-      omega (arith, c.leader.ensures, leaders-turn l p.x, p.invariant.1),
-      ap (λ (n : ℕ). numberedFrom (a.objects - (p.x + 1)) l (p.x + 1) (p.next + n) (set p.colors p.x c.before.color-of.result)) c.leader.ensures
-          ∙ ap (λ (t : ℕ). numberedFrom (a.objects - (p.x + 1)) l (p.x + 1) (p.next + leads l p.x) (set p.colors p.x t)) c.before.color-of.ensures
-          ∙ sym (numbered-turn a.objects p.x p.next l p.colors h)
+      omega (arith, c.leader.ensures, leaders_turn l p.x, p.invariant.1),
+      ap (λ (n : ℕ). numbered_from (a.objects - (p.x + 1)) l (p.x + 1) (p.next + n) (set p.colors p.x c.before.color-of.result)) c.leader.ensures
+          ∙ ap (λ (t : ℕ). numbered_from (a.objects - (p.x + 1)) l (p.x + 1) (p.next + leads l p.x) (set p.colors p.x t)) c.before.color-of.ensures
+          ∙ sym (numbered_turn a.objects p.x p.next l p.colors h)
           ∙ p.invariant.2,
     )
 
@@ -79,7 +79,7 @@ returns : tie.Need-returns invariant-loop decreases-loop
 returns c =
     let a = c.before.before.args in
     let p = c.before.loop in
-    sym (numbered-done a.objects p.x p.next a.labels.now p.colors (omega arith)) ∙ p.invariant.2
+    sym (numbered_done a.objects p.x p.next a.labels.now p.colors (omega arith)) ∙ p.invariant.2
 
 pub colors-of-spec : {M : Type 1} → statement M
 colors-of-spec =

@@ -4,7 +4,7 @@ use native.Mathlib.Omega.{arith}
 use mathlib.Core.Path.{◌≡◌, refl, ap, ◌∙◌}
 use lib.ListN.{get_or}
 use Rattle.coloring.specs.Labels.{leaders}
-use Rattle.coloring.proofs.Turns.{lead-most, leaders-most, leaders-turn}
+use Rattle.coloring.proofs.Turns.{lead_most, leaders_most, leaders_turn}
 use borrow.Author.Rules.{rules}
 use Rattle.coloring.proofs.painting.count_classes.Statement.{statement}
 use Rattle.coloring.proofs.painting.count_classes.Tie as tie
@@ -32,7 +32,7 @@ add-classes : tie.Need-overflow-add-classes invariant-loop decreases-loop
 add-classes c =
     let l = c.before.before.before.before.args.labels.now in
     let p = c.before.before.before.loop in
-    omega (arith, c.leader.ensures, lead-most (get_or l p.x 0) p.x, leaders-most l p.x)
+    omega (arith, c.leader.ensures, lead_most (get_or l p.x 0) p.x, leaders_most l p.x)
 
 add-x : tie.Need-overflow-add-x invariant-loop decreases-loop
 add-x c = omega arith
@@ -44,7 +44,7 @@ loop-again : tie.Need-loop-preserved invariant-loop decreases-loop
 loop-again c =
     let l = c.before.before.before.before.args.labels.now in
     let p = c.before.before.before.loop in
-    (omega arith, omega (arith, c.leader.ensures, leaders-turn l p.x, p.invariant.1))
+    (omega arith, omega (arith, c.leader.ensures, leaders_turn l p.x, p.invariant.1))
 
 returns : tie.Need-returns invariant-loop decreases-loop
 returns c =

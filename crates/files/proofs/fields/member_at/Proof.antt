@@ -1,6 +1,6 @@
 use mathlib.Core.Path.{sym, ◌∙◌}
 use borrow.Author.Tests.{not-true, not-false}
-use Rattle.files.proofs.Judging.{not-read, failed, passed}
+use Rattle.files.proofs.Judging.{not_read, failed, passed}
 use borrow.Author.Rules.{rules}
 use Rattle.files.proofs.fields.member_at.Statement.{statement}
 use Rattle.files.proofs.fields.member_at.Tie as tie
@@ -17,7 +17,7 @@ enum_told c = search rules
 returns : tie.Need-returns
 returns c =
     let e = c.enum_told.given.1 in
-    e ∙ sym (not-read _ _ _ _ (sym c.before.before.read_at.ensures ∙ e))
+    e ∙ sym (not_read _ _ _ _ (sym c.before.before.read_at.ensures ∙ e))
 
 is-member-requires : tie.Need-is-member-requires
 is-member-requires c κs = search rules

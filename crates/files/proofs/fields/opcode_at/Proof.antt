@@ -1,6 +1,6 @@
 use mathlib.Core.Path.{sym, ◌∙◌}
 use borrow.Author.Tests.{not-true, not-false}
-use Rattle.files.proofs.Judging.{not-read, failed, passed}
+use Rattle.files.proofs.Judging.{not_read, failed, passed}
 use borrow.Author.Rules.{rules}
 use Rattle.files.proofs.fields.opcode_at.Statement.{statement}
 use Rattle.files.proofs.fields.opcode_at.Tie as tie
@@ -17,7 +17,7 @@ enum_told c = search rules
 returns : tie.Need-returns
 returns c =
     let e = c.enum_told.given.1 in
-    e ∙ sym (not-read _ _ _ _ (sym c.before.before.read_at.ensures ∙ e))
+    e ∙ sym (not_read _ _ _ _ (sym c.before.before.read_at.ensures ∙ e))
 
 has-opcode-requires : tie.Need-has-opcode-requires
 has-opcode-requires c κs = search rules

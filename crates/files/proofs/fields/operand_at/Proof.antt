@@ -1,6 +1,6 @@
 use mathlib.Core.Path.{sym, ◌∙◌}
 use borrow.Author.Tests.{not-true, not-false}
-use Rattle.files.proofs.Judging.{not-read, failed, passed}
+use Rattle.files.proofs.Judging.{not_read, failed, passed}
 use borrow.Author.Rules.{rules}
 use Rattle.files.proofs.fields.operand_at.Statement.{statement}
 use Rattle.files.proofs.fields.operand_at.Tie as tie
@@ -26,7 +26,7 @@ returns-2 c =
     let e = c.enum_told.given.1 in
     let p = c.before.before.before in
     simp (sym p.before.is-present.ensures ∙ not-false _ p.if1.false, operand_at)
-    (e ∙ sym (not-read _ _ _ _ (sym c.before.before.read_at.ensures ∙ e)))
+    (e ∙ sym (not_read _ _ _ _ (sym c.before.before.read_at.ensures ∙ e)))
 
 is-allowed-requires : tie.Need-is-allowed-requires
 is-allowed-requires c κs = search rules

@@ -1,4 +1,4 @@
-use Rattle.files.specs.Inside.{whyRead}
+use Rattle.files.specs.Inside.{why_read}
 use borrow.Author.Rules.{rules}
 use Rattle.files.proofs.fields.why_read.Statement.{statement}
 use Rattle.files.proofs.fields.why_read.Tie as tie
@@ -10,7 +10,7 @@ enum-known-read : tie.Need-enum-known-read
 enum-known-read c = search rules
 
 returns : tie.Need-returns
-returns c = rw (c.enum_told.given.1, whyRead)
+returns c = rw (c.enum_told.given.1, why_read)
 
 returns-2 : tie.Need-returns-2
 returns-2 c = search rules

@@ -4,11 +4,11 @@ use mathlib.Core.Bool.{true}
 use native.Mathlib.Omega.{arith}
 use Rattle.files.specs.declared.Ended.{Ended}
 use Rattle.opcodes.specs.Ranges.{within}
-use Rattle.files.specs.Program.{mostCode}
+use Rattle.files.specs.Program.{most_code}
 use Rattle.files.specs.Reading.{judged}
-use Rattle.files.specs.Inside.{whyRead, codeAfter}
-use Rattle.opcodes.proofs.Bounds.{within-bounds}
-use Rattle.files.proofs.Judging.{field-small, most-small}
+use Rattle.files.specs.Inside.{why_read, code_after}
+use Rattle.opcodes.proofs.Bounds.{within_bounds}
+use Rattle.files.proofs.Judging.{field_small, most_small}
 use borrow.Author.Rules.{rules}
 use Rattle.files.proofs.lines.code_of.Statement.{statement}
 use Rattle.files.proofs.lines.code_of.Tie as tie
@@ -35,8 +35,8 @@ returns : tie.Need-returns
 returns c =
     let a = c.before.before.before.before.before.before.before.before.args in
     let e = c.before.before.enum_told.given.1 in
-    rw (ap (codeAfter a.version a.kinds.now a.sets a.file.now) (sym (ap (λ (m : ℕ). judged 5 (within 1 m) a.file.now a.from.at) c.before.before.before.before.before.most-code.ensures) ∙ sym c.before.before.before.before.ranged.ensures ∙ e))
-    (ap Ended.Refused (c.why-read.ensures ∙ ap whyRead e))
+    rw (ap (code_after a.version a.kinds.now a.sets a.file.now) (sym (ap (λ (m : ℕ). judged 5 (within 1 m) a.file.now a.from.at) c.before.before.before.before.before.most-code.ensures) ∙ sym c.before.before.before.before.ranged.ensures ∙ e))
+    (ap Ended.Refused (c.why-read.ensures ∙ ap why_read e))
 
 cast-t13 : tie.Need-overflow-cast-t13
 cast-t13 c = search rules
@@ -46,15 +46,15 @@ read-code-requires c κs =
     let a = c.before.before.before.before.before.before.before.args in
     let e = sym (ap (λ (m : ℕ). judged 5 (within 1 m) a.file.now a.from.at) c.before.before.before.before.most-code.ensures) ∙ sym c.before.before.before.ranged.ensures ∙ c.before.count-read.given.1 in
     let p = c.before.before.before.before.before.before.before.requires in
-    let few = field-small 5 (within 1 (mostCode a.version)) _ _ true 2000
-    (λ n h. let b = within-bounds 1 _ n h in let m = most-small a.version in omega (arith, b.1)) e in
-    record { few-objects = p.0; few-sets = p.1; few-lines = few }
+    let few = field_small 5 (within 1 (most_code a.version)) _ _ true 2000
+    (λ n h. let b = within_bounds 1 _ n h in let m = most_small a.version in omega (arith, b.1)) e in
+    record { few_objects = p.0; few_sets = p.1; few_lines = few }
 
 returns-2 : tie.Need-returns-2
 returns-2 c =
     let a = c.before.before.before.before.before.before.before.before.args in
-    rw (ap (codeAfter a.version a.kinds.now a.sets a.file.now) (sym (ap (λ (m : ℕ). judged 5 (within 1 m) a.file.now a.from.at) c.before.before.before.before.before.most-code.ensures) ∙ sym c.before.before.before.before.ranged.ensures ∙ c.before.before.count-read.given.1))
-    c.read-code.ensures
+    rw (ap (code_after a.version a.kinds.now a.sets a.file.now) (sym (ap (λ (m : ℕ). judged 5 (within 1 m) a.file.now a.from.at) c.before.before.before.before.before.most-code.ensures) ∙ sym c.before.before.before.before.ranged.ensures ∙ c.before.before.count-read.given.1))
+    c.read_code.ensures
 
 pub code-of-spec : {M : Type 1} → statement M
 code-of-spec =

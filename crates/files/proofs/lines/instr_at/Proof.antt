@@ -47,8 +47,8 @@ use Rattle.numbers.proofs.Cursor.TheLaws as K'
 use Rattle.reader.specs.declared.Reader.{Reader}
 use Rattle.reader.specs.contracts.Reader as T
 use Rattle.reader.proofs.Reader.TheLaws as T'
-use Rattle.reader.proofs.Held.{row, slice_of, OwnSlice, slice-twice}
-use Rattle.opcodes.specs.Ranges.{scopeOver}
+use Rattle.reader.proofs.Held.{row, slice_of, OwnSlice, slice_twice}
+use Rattle.opcodes.specs.Ranges.{scope_over}
 use Rattle.files.specs.Inside.{Small}
 use Rattle.opcodes.specs.declared.Scope.{Scope}
 use Rattle.files.specs.declared.InstrRead.{InstrRead}
@@ -72,7 +72,7 @@ use Rattle.files.specs.contracts.lines.instr_at.Key.{name as #files·instr-at}
 use Rattle.files.specs.contracts.lines.instr_at as instr-at
 use Rattle.files.proofs.lines.instr_at.Statement as stated
 use Rattle.files.proofs.lines.instr_at.Code as code
-use Rattle.files.specs.Parsing.{readInstr}
+use Rattle.files.specs.Parsing.{read_instr}
 
 abbrev stayed : Stays (instr-at.ended).signature.params (instr-at.ended).kept
 stayed = (stay_none_slice (0 ∷ []) tt (plain (λ _. u8)) yes, (stay_none (λ _. K.the_row) yes, (stay_none_slice (1 ∷ []) tt (plain (λ _. u8)) yes, (stay_none (λ _. Z.the_row) yes, tt))))
@@ -96,7 +96,7 @@ module _ {M : Type 1} {𝓤 : Ura M} (𝓛 : Logic 𝓤) (mem : Memory → SProp
   at = (slice_of s ∷ [], (K'.lowered c ∷ [], (slice_of t ∷ [], (Z'.lowered z ∷ [], tt))))
 
   abbrev found : InstrRead
-  found = readInstr (scopeOver z t.now) s.now c.at
+  found = read_instr (scope_over z t.now) s.now c.at
 
   -- the struct's type as a local of a body has it
   abbrev αᵉ : NamedLft
@@ -131,7 +131,7 @@ module _ {M : Type 1} {𝓤 : Ura M} (𝓛 : Logic 𝓤) (mem : Memory → SProp
   goes-open : ent 𝓤 (on_entry 𝓛 instr-at.signature (κ, (κ', tt)) (q, (q', tt)) (s, (c, (t, (z, tt)))) at) (⋆ 𝓛 (raw ((Open 𝓛 mem run).pre to-open) ∷ (‵ (flft κ' q') ⊛ ‵ ftrue) ∷ ‵ OwnLast ∷ ‵ OwnAll ∷ ‵ OwnFrom ∷ []))
   goes-open =
       qed 𝓛 ((‵ (flft κ q) ⊛ ‵ (flft κ' q') ⊛ ‵ ftrue) ∷ ‵ OwnAll ∷ []) ∵
-      move ! (1 ∷ []) $ fsplit ! $ use1 𝓛 (‵ (OwnSlice κ s) ⊛ ‵ (OwnSlice κ s)) (slice-twice 𝓛 κ s) $ split ! $
+      move ! (1 ∷ []) $ fsplit ! $ use1 𝓛 (‵ (OwnSlice κ s) ⊛ ‵ (OwnSlice κ s)) (slice_twice 𝓛 κ s) $ split ! $
       move ! (2 ∷ []) $ fsplit ! $ use1 𝓛 (‵ OwnFrom ⊛ ‵ OwnFrom) ((LL.copy K.the_type K'.the_copy 𝓛).twice c (K'.lowered c ∷ [])) $ split ! $
       move ! (2 ∷ []) $ fsplit ! $ use1 𝓛 (‵ OwnKinds ⊛ ‵ OwnKinds) ((shr_slice_copy 𝓛 (named 1) κ' u8).twice t (slice_of t ∷ [])) $ split ! $
       move ! (2 ∷ []) $ fsplit ! $ use1 𝓛 (‵ OwnScope ⊛ ‵ OwnScope) ((LL.copy Z.the_type Z'.the_copy 𝓛).twice z (Z'.lowered z ∷ [])) $ split ! $
@@ -170,8 +170,8 @@ module _ {M : Type 1} {𝓤 : Ura M} (𝓛 : Logic 𝓤) (mem : Memory → SProp
   goes-instruction small b u =
       qed 𝓛 ((‵ (flft κ q) ⊛ ‵ (flft κ' q') ⊛ ‵ ftrue) ∷ ‵ ((row (κ, tt)).own b (u ∷ [])) ∷ ‵ OwnLast ∷ []) ∵ says ! small $ frame ! $ fjoin ! $ done !
 
-  instruction-said : (b : Reader) (x : InstrRead) → ent 𝓤 (ensured 𝓛 instruction.ended (instruction.clauses 𝓛 mem run) (κ, (κ', tt)) (b, (t, (z, tt))) tt x) (fact 𝓤 (x ≡ readInstr (scopeOver z t.now) b.file.now b.at))
-  instruction-said b x = ex_e 𝓤 _ (λ ws. snd∗ 𝓤 (sem 𝓛 (lasts instruction.ended (κ, (κ', tt)) (b, (t, (z, tt))) ws)) (fact 𝓤 (x ≡ readInstr (scopeOver z t.now) b.file.now b.at)))
+  instruction-said : (b : Reader) (x : InstrRead) → ent 𝓤 (ensured 𝓛 instruction.ended (instruction.clauses 𝓛 mem run) (κ, (κ', tt)) (b, (t, (z, tt))) tt x) (fact 𝓤 (x ≡ read_instr (scope_over z t.now) b.file.now b.at))
+  instruction-said b x = ex_e 𝓤 _ (λ ws. snd∗ 𝓤 (sem 𝓛 (lasts instruction.ended (κ, (κ', tt)) (b, (t, (z, tt))) ws)) (fact 𝓤 (x ≡ read_instr (scope_over z t.now) b.file.now b.at)))
 
   exits : (x : InstrRead) (u : Val) → x ≡ found → ent 𝓤 (⋆ 𝓛 (‵ ((S.the_row).own_val x (u ∷ [])) ∷ (‵ (flft κ q) ⊛ ‵ (flft κ' q') ⊛ ‵ ftrue) ∷ ‵ OwnAll ∷ [])) (Post u)
   exits x u e =
@@ -209,14 +209,14 @@ module _ {M : Type 1} {𝓤 : Ura M} (𝓛 : Logic 𝓤) (mem : Memory → SProp
         -- [what `instruction` asks; what the parameters own; _6; …; _5; …; _4; …; _3; …; _2; …; _1; …; room for _0; …]
         calls_at ! fm (Instruction 𝓛 mem run) known-instruction (to-instruction b u') (and_then ! (load ! (from ! (stop !)) (look ! 4 refl)) (and_then ! (load ! (from ! (stop !)) (look ! 8 refl)) (and_then ! (load ! (from ! (stop !)) (look ! 6 refl)) (no_more !)))) (λ u''.
         use1 𝓛 (later (some (λ (x : InstrRead). ((‵ (flft κ q) ⊛ ‵ (flft κ' q') ⊛ ‵ ftrue) ⊛ ‵ ((S.the_row).own_val x (u'' ∷ []))) ⊛ raw (ensured 𝓛 instruction.ended (instruction.clauses 𝓛 mem run) (κ, (κ', tt)) (b, (t, (z, tt))) tt x)))) (id⊢ 𝓤 _) $ await ! tt $ pick ! (λ x.
-        split ! $ move ! (1 ∷ []) $ use1 𝓛 (raw (fact 𝓤 (x ≡ readInstr (scopeOver z t.now) b.file.now b.at))) (instruction-said b x) $ heard ! (x ≡ readInstr (scopeOver z t.now) b.file.now b.at) (λ e''. split ! $ move ! (1 ∷ []) $
+        split ! $ move ! (1 ∷ []) $ use1 𝓛 (raw (fact 𝓤 (x ≡ read_instr (scope_over z t.now) b.file.now b.at))) (instruction-said b x) $ heard ! (x ≡ read_instr (scope_over z t.now) b.file.now b.at) (λ e''. split ! $ move ! (1 ∷ []) $
         -- [the result; the tokens; what the parameters own; _6; …; _5; …; _4; …; _3; …; _2; …; _1; …; room for _0; …]
         peeks ! S.the_row (Is S.the_row) (shows 𝓛 S.the_row) x (u'' ∷ []) (λ is''.
         land ! (from ! (stop !)) (init ! 15 refl ((EL.lawful S.the_type S'.the_laws 𝓛 tt).typed x _ is'').0) $
         returns ! (look ! 15 refl) $ forget ! 3 refl $ forget ! 5 refl $ forget ! 7 refl $ forget ! 9 refl $ forget ! 11 refl $ forget ! 13 refl $ forget ! 15 refl $
         move ! (15 ∷ 16 ∷ []) $ free1 ! $ move ! (13 ∷ 14 ∷ []) $ free1 ! $ move ! (11 ∷ 12 ∷ []) $ free1 ! $ move ! (9 ∷ 10 ∷ []) $ free1 ! $ move ! (7 ∷ 8 ∷ []) $ free1 ! $
         move ! (5 ∷ 6 ∷ []) $ free1 ! $ move ! (3 ∷ 4 ∷ []) $ free1 ! $ free0 ! $
-        by ! (exits x u'' (e'' ∙ (ap (λ (f : Bor (List ℕ)). readInstr (scopeOver z t.now) f.now b.at) (e'.0 ∙ e.0) ∙ ap (readInstr (scopeOver z t.now) s.now) e'.1))))))))))))))))))))))
+        by ! (exits x u'' (e'' ∙ (ap (λ (f : Bor (List ℕ)). read_instr (scope_over z t.now) f.now b.at) (e'.0 ∙ e.0) ∙ ap (read_instr (scope_over z t.now) s.now) e'.1))))))))))))))))))))))
 
 module _ {M : Type 1} {𝓤 : Ura M} (𝓛 : Logic 𝓤) (mem : Memory → SProp 𝓤) (run : Routine → Fun 𝓤) where
   open 𝓛 use {H}

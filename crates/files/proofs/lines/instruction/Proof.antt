@@ -1,4 +1,4 @@
--- `instruction` meets its contract: a walk of its MIR, by hand. The reader is taken apart (`held-file`), and
+-- `instruction` meets its contract: a walk of its MIR, by hand. The reader is taken apart (`held_file`), and
 -- `read_instr` is called on the slice, a cursor at the place, and the rest as it was passed. All that the proof
 -- knows of it is that it meets its contract.
 use mathlib.Core.Path.{◌≡◌, refl}
@@ -44,8 +44,8 @@ use Rattle.numbers.specs.contracts.Cursor as K
 use Rattle.numbers.proofs.Cursor.TheLaws as K'
 use Rattle.reader.specs.declared.Reader.{Reader}
 use Rattle.reader.proofs.Reader.TheLaws as T'
-use Rattle.reader.proofs.Held.{row, type, laws, slice_of, Own, OwnSlice, held-file}
-use Rattle.opcodes.specs.Ranges.{scopeOver}
+use Rattle.reader.proofs.Held.{row, type, laws, slice_of, Own, OwnSlice, held_file}
+use Rattle.opcodes.specs.Ranges.{scope_over}
 use Rattle.files.specs.Inside.{Small}
 use Rattle.opcodes.specs.declared.Scope.{Scope}
 use Rattle.files.specs.declared.InstrRead.{InstrRead}
@@ -61,7 +61,7 @@ use Rattle.files.specs.contracts.lines.instruction.Key.{name as #files·instruct
 use Rattle.files.specs.contracts.lines.instruction as instruction
 use Rattle.files.proofs.lines.instruction.Statement as stated
 use Rattle.files.proofs.lines.instruction.Code as code
-use Rattle.files.specs.Parsing.{readInstr}
+use Rattle.files.specs.Parsing.{read_instr}
 
 abbrev stayed : Stays (instruction.ended).signature.params (instruction.ended).kept
 stayed = (stay_none (λ κs. row (κs.0, tt)) yes, (stay_none_slice (1 ∷ []) tt (plain (λ _. u8)) yes, (stay_none (λ _. Z.the_row) yes, tt)))
@@ -82,7 +82,7 @@ module _ {M : Type 1} {𝓤 : Ura M} (𝓛 : Logic 𝓤) (mem : Memory → SProp
   at = (mach ∷ [], (slice_of t ∷ [], (Z'.lowered z ∷ [], tt)))
 
   abbrev found : InstrRead
-  found = readInstr (scopeOver z t.now) d.file.now d.at
+  found = read_instr (scope_over z t.now) d.file.now d.at
 
   -- the cursor that the callee is passed
   abbrev c : Cursor
@@ -118,7 +118,7 @@ module _ {M : Type 1} {𝓤 : Ura M} (𝓛 : Logic 𝓤) (mem : Memory → SProp
   apart : Small z t.now → d.at < 2 ^ 64 → ent 𝓤 (on_entry 𝓛 instruction.signature (κ, (κ', tt)) (q, (q', tt)) (d, (t, (z, tt))) at) (sep 𝓤 ((ReadInstr 𝓛 mem run).pre to) (sem 𝓛 OwnAll))
   apart small fits =
       qed 𝓛 ((‵ (flft κ q) ⊛ ‵ (flft κ' q') ⊛ ‵ ftrue) ∷ ‵ OwnAll ∷ []) ∵
-      move ! (1 ∷ []) $ fsplit ! $ use1 𝓛 (‵ (OwnSlice κ d.file) ⊛ ‵ (Own κ d)) (held-file 𝓛 κ d) $ split ! $
+      move ! (1 ∷ []) $ fsplit ! $ use1 𝓛 (‵ (OwnSlice κ d.file) ⊛ ‵ (Own κ d)) (held_file 𝓛 κ d) $ split ! $
       move ! (2 ∷ []) $ fsplit ! $ use1 𝓛 (‵ OwnKinds ⊛ ‵ OwnKinds) ((shr_slice_copy 𝓛 (named 1) κ' u8).twice t (slice_of t ∷ [])) $ split ! $
       move ! (2 ∷ []) $ fsplit ! $ use1 𝓛 (‵ OwnScope ⊛ ‵ OwnScope) ((LL.copy Z.the_type Z'.the_copy 𝓛).twice z (Z'.lowered z ∷ [])) $ split ! $
       -- [the scope's; the same; nothing; the kinds'; the same; the file's; the reader's; the tokens]

@@ -3,14 +3,14 @@ use Prim.Native.Nat.{◌-◌}
 use native.Mathlib.Omega.{arith}
 use borrow.Author.Rules.{rules}
 use Rattle.files.specs.declared.Ended.{Ended}
-use Rattle.opcodes.specs.Ranges.{scopeOver}
-use Rattle.files.specs.Inside.{whyInstr}
+use Rattle.opcodes.specs.Ranges.{scope_over}
+use Rattle.files.specs.Inside.{why_instr}
 use Rattle.files.proofs.CodeLoop.{Filling, start, more, stops, ends}
 use Rattle.files.proofs.lines.read_code.Statement.{statement}
 use Rattle.files.proofs.lines.read_code.Tie as tie
 
 abbrev invariant-loop : tie.invariant-loop
-invariant-loop file kinds scope lines code₀ next₀ i₀ code next i = (lines ≡ scope.lines) × Filling (scopeOver scope kinds) lines file next₀.at code next.at i
+invariant-loop file kinds scope lines code₀ next₀ i₀ code next i = (lines ≡ scope.lines) × Filling (scope_over scope kinds) lines file next₀.at code next.at i
 
 abbrev decreases-loop : tie.decreases-loop
 decreases-loop file kinds scope lines code₀ next₀ i₀ code next i = lines - i
@@ -38,13 +38,13 @@ returns c =
     let e = c.before.enum_told.given.1 in
     let l = c.before.before.before.before.before in
     let q = stops l.loop.invariant.1 c.before.before.before.before.loop-test.true (sym c.before.before.before.instr-at.ensures ∙ e) in
-    rw q (ap Ended.Refused (c.why-instr.ensures ∙ ap whyInstr e))
+    rw q (ap Ended.Refused (c.why-instr.ensures ∙ ap why_instr e))
 
 mul-code : tie.Need-overflow-mul-code invariant-loop decreases-loop
-mul-code c = omega (arith, c.before.before.before.before.before.before.before.before.before.requires.few-lines)
+mul-code c = omega (arith, c.before.before.before.before.before.before.before.before.before.requires.few_lines)
 
 array-set-from-code : tie.Need-array-set-from-code invariant-loop decreases-loop
-array-set-from-code c = omega (arith, c.before.before.before.before.before.before.before.before.before.requires.few-lines)
+array-set-from-code c = omega (arith, c.before.before.before.before.before.before.before.before.before.requires.few_lines)
 
 add-i : tie.Need-overflow-add-i invariant-loop decreases-loop
 add-i c = omega arith
@@ -55,7 +55,7 @@ loop-less c = omega arith
 loop-again : tie.Need-loop-preserved invariant-loop decreases-loop
 loop-again c =
     let l = c.before.before.before.before.before in
-    (refl, more l.loop.invariant.1 c.before.before.before.before.loop-test.true c.before.before.before.before.before.before.before.before.before.requires.few-lines (sym c.before.before.before.instr-at.ensures ∙ c.before.read.given.1))
+    (refl, more l.loop.invariant.1 c.before.before.before.before.loop-test.true c.before.before.before.before.before.before.before.before.before.requires.few_lines (sym c.before.before.before.instr-at.ensures ∙ c.before.read.given.1))
 
 returns-2 : tie.Need-returns-2 invariant-loop decreases-loop
 returns-2 c =
@@ -64,7 +64,7 @@ returns-2 c =
     rw e
     (record {
       lines = omega (arith, f.counted, f.at_most, c.loop-test.false);
-      code = f.held-code;
+      code = f.held_code;
       ended = refl;
     })
 

@@ -1,4 +1,4 @@
-use Rattle.files.specs.Inside.{whyInstr}
+use Rattle.files.specs.Inside.{why_instr}
 use borrow.Author.Rules.{rules}
 use Rattle.files.proofs.lines.why_instr.Statement.{statement}
 use Rattle.files.proofs.lines.why_instr.Tie as tie
@@ -10,7 +10,7 @@ enum-known-read : tie.Need-enum-known-read
 enum-known-read c = search rules
 
 returns : tie.Need-returns
-returns c = rw (c.enum_told.given.1, whyInstr)
+returns c = rw (c.enum_told.given.1, why_instr)
 
 returns-2 : tie.Need-returns-2
 returns-2 c = search rules

@@ -3,7 +3,7 @@ use Prim.Native.Nat.{◌-◌}
 use native.Mathlib.Omega.{arith}
 use borrow.Author.Rules.{rules}
 use Rattle.files.specs.declared.Ended.{Ended}
-use Rattle.files.specs.Inside.{whyObject}
+use Rattle.files.specs.Inside.{why_object}
 use Rattle.files.proofs.ObjectLoop.{Filling, start, more, stops, ends}
 use Rattle.files.proofs.objects.read_objects.Statement.{statement}
 use Rattle.files.proofs.objects.read_objects.Tie as tie
@@ -43,7 +43,7 @@ returns c =
     let e = c.before.enum_told.given.1 in
     let l = c.before.before.before.before.before in
     let q = stops l.loop.invariant c.before.before.before.before.loop-test.true (sym c.before.before.before.read-object.ensures ∙ e) in
-    rw q (ap Ended.Refused (c.why-object.ensures ∙ ap whyObject e))
+    rw q (ap Ended.Refused (c.why-object.ensures ∙ ap why_object e))
 
 array-write-kinds : tie.Need-array-write-kinds invariant-loop decreases-loop
 array-write-kinds c = omega arith
@@ -76,9 +76,9 @@ returns-2 c =
     (record {
       few = omega (arith, f.counted, f.at_most, c.before.before.before.before.before.before.requires);
       count = omega (arith, f.counted, f.at_most, c.loop-test.false);
-      kinds = f.held-kinds;
-      sizes = f.held-sizes;
-      colors = f.held-colors;
+      kinds = f.held_kinds;
+      sizes = f.held_sizes;
+      colors = f.held_colors;
       ended = refl;
     })
 

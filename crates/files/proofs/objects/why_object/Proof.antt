@@ -1,4 +1,4 @@
-use Rattle.files.specs.Inside.{whyObject}
+use Rattle.files.specs.Inside.{why_object}
 use borrow.Author.Rules.{rules}
 use Rattle.files.proofs.objects.why_object.Statement.{statement}
 use Rattle.files.proofs.objects.why_object.Tie as tie
@@ -10,7 +10,7 @@ enum-known-read : tie.Need-enum-known-read
 enum-known-read c = search rules
 
 returns : tie.Need-returns
-returns c = rw (c.enum_told.given.1, whyObject)
+returns c = rw (c.enum_told.given.1, why_object)
 
 returns-2 : tie.Need-returns-2
 returns-2 c = search rules

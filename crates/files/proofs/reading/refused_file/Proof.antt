@@ -1,4 +1,4 @@
-use Rattle.files.specs.Held.{endsFrom, joined}
+use Rattle.files.specs.Held.{ends_from, joined}
 use borrow.Author.Rules.{rules}
 use Rattle.files.proofs.reading.refused_file.Statement.{statement}
 use Rattle.files.proofs.reading.refused_file.Tie as tie
@@ -22,7 +22,7 @@ blank-code-requires : tie.Need-blank-code-requires
 blank-code-requires c κs = search rules
 
 returns : tie.Need-returns
-unfolding endsFrom joined
+unfolding ends_from joined
 returns c =
     rw (c.before.before.before.before.before.blank-bytes.ensures, c.before.before.before.before.blank-halves.ensures, c.before.before.before.blank-bytes2.ensures, c.before.before.blank-halves2.ensures, c.before.blank-members.ensures, c.blank-code.ensures)
 

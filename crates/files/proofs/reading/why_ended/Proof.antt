@@ -1,4 +1,4 @@
-use Rattle.files.specs.Inside.{whyEnded}
+use Rattle.files.specs.Inside.{why_ended}
 use borrow.Author.Rules.{rules}
 use Rattle.files.proofs.reading.why_ended.Statement.{statement}
 use Rattle.files.proofs.reading.why_ended.Tie as tie
@@ -10,7 +10,7 @@ enum-known-ended : tie.Need-enum-known-ended
 enum-known-ended c = search rules
 
 returns : tie.Need-returns
-returns c = rw (c.enum_told.given.1, whyEnded)
+returns c = rw (c.enum_told.given.1, why_ended)
 
 returns-2 : tie.Need-returns-2
 returns-2 c = search rules

@@ -3,7 +3,7 @@ use Prim.Native.Nat.{ℕ, ◌-◌}
 use native.Mathlib.Omega.{arith}
 use borrow.Author.Rules.{rules}
 use Rattle.files.specs.declared.sets.SetRead.{SetRead}
-use Rattle.files.specs.Inside.{whyRead}
+use Rattle.files.specs.Inside.{why_read}
 use Rattle.files.proofs.MemberLoop.{Member, member, Taking, begin, as_long, more, stops, ends}
 use Rattle.files.proofs.sets.read_members.Statement.{statement}
 use Rattle.files.proofs.sets.read_members.Tie as tie
@@ -35,13 +35,13 @@ same_length c = as_long c.before.before.before.before.before.loop.invariant
 returns : tie.Need-returns invariant-loop decreases-loop
 returns c =
     let e = c.before.enum_told.given.1 in
-    let q = stops c.before.before.before.before.before.loop.invariant c.before.before.before.before.loop-test.true (sym c.before.before.before.member-at.ensures ∙ e) in
-    rw q (ap SetRead.Refused (c.why-read.ensures ∙ ap whyRead e))
+    let q = stops c.before.before.before.before.before.loop.invariant c.before.before.before.before.loop-test.true (sym c.before.before.before.member_at_lem.ensures ∙ e) in
+    rw q (ap SetRead.Refused (c.why-read.ensures ∙ ap why_read e))
 
 -- the member that was read, and that the room has a place for it
 read_is : (c : tie.After-known-told invariant-loop decreases-loop)
     → Member c.before.before.before.before.before.before.before.before.args.objects c.before.before.before.before.before.before.before.before.args.file.now c.before.before.before.before.before.loop.next.at c.before.before.before.before.before.loop.low c.before.read.given.0.0 c.before.read.given.0.1.0.at
-read_is c = member _ _ _ _ (sym c.before.before.before.member-at.ensures ∙ c.before.read.given.1)
+read_is c = member _ _ _ _ (sym c.before.before.before.member_at_lem.ensures ∙ c.before.read.given.1)
 
 cast-members : tie.Need-overflow-cast-members invariant-loop decreases-loop
 cast-members c = let m = read_is c in omega (arith, m.known, c.before.before.before.before.before.before.before.before.requires.few)
@@ -68,7 +68,7 @@ loop-less : tie.Need-loop-smaller invariant-loop decreases-loop
 loop-less c = omega arith
 
 loop-again : tie.Need-loop-preserved invariant-loop decreases-loop
-loop-again c = more c.before.before.before.before.before.loop.invariant c.before.before.before.before.loop-test.true (sym c.before.before.before.member-at.ensures ∙ c.before.read.given.1)
+loop-again c = more c.before.before.before.before.before.loop.invariant c.before.before.before.before.loop-test.true (sym c.before.before.before.member_at_lem.ensures ∙ c.before.read.given.1)
 
 same-length-2 : tie.Need-same-length-2 invariant-loop decreases-loop
 same-length-2 c = as_long c.before.loop.invariant

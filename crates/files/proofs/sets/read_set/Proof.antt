@@ -1,14 +1,14 @@
 use mathlib.Core.Path.{sym, ap, ◌∙◌}
 use native.Mathlib.Omega.{arith}
-use Rattle.numbers.proofs.Laws.{read-bounds}
+use Rattle.numbers.proofs.Laws.{read_bounds}
 use Rattle.files.specs.declared.sets.SetRead.{SetRead}
 use Rattle.opcodes.specs.Ranges.{within}
-use Rattle.files.specs.Inside.{whyRead}
+use Rattle.files.specs.Inside.{why_read}
 use Rattle.files.proofs.Judging.{good}
 use borrow.Author.Rules.{rules}
 use Rattle.files.proofs.sets.read_set.Statement.{statement}
 use Rattle.files.proofs.sets.read_set.Tie as tie
-use Rattle.files.specs.Parsing.{afterMemberCount}
+use Rattle.files.specs.Parsing.{after_member_count}
 
 cast-ranged : tie.Need-overflow-cast-ranged
 cast-ranged c = search rules
@@ -29,8 +29,8 @@ returns : tie.Need-returns
 returns c =
     let a = c.before.before.before.before.before.before.args in
     let e = c.before.enum_told.given.1 in
-    rw (ap (afterMemberCount a.objects a.file.now) (sym c.before.before.before.ranged.ensures ∙ e))
-    (ap SetRead.Refused (c.why-read.ensures ∙ ap whyRead e))
+    rw (ap (after_member_count a.objects a.file.now) (sym c.before.before.before.ranged.ensures ∙ e))
+    (ap SetRead.Refused (c.why-read.ensures ∙ ap why_read e))
 
 cast-read-members : tie.Need-overflow-cast-read-members
 cast-read-members c = search rules
@@ -39,7 +39,7 @@ read-members-requires : tie.Need-read-members-requires
 read-members-requires c κs =
     let p = c.before.before.before.before.before.before.before.requires in
     let g = good 5 (within 1 c.before.before.before.before.before.before.before.args.objects) _ _ (sym c.before.before.before.before.ranged.ensures ∙ c.before.before.count-read.given.1) in
-    let b = read-bounds _ _ g.read in
+    let b = read_bounds _ _ g.read in
     record { short = p.short; most = p.most; behind = omega (arith, b.0, p.behind); few = p.few }
 
 same_length : tie.Need-same-length
@@ -48,7 +48,7 @@ same_length c = search rules
 returns-2 : tie.Need-returns-2
 returns-2 c =
     let a = c.before.before.before.before.before.before.before.before.before.before.args in
-    rw (ap (afterMemberCount a.objects a.file.now) (sym c.before.before.before.before.before.before.before.ranged.ensures ∙ c.before.before.before.before.before.count-read.given.1))
+    rw (ap (after_member_count a.objects a.file.now) (sym c.before.before.before.before.before.before.before.ranged.ensures ∙ c.before.before.before.before.before.count-read.given.1))
     c.before.before.read-members.ensures
 
 pub read-set-spec : {M : Type 1} → statement M

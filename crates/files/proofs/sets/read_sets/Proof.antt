@@ -3,13 +3,13 @@ use Prim.Native.Nat.{◌-◌}
 use native.Mathlib.Omega.{arith}
 use borrow.Author.Rules.{rules}
 use Rattle.files.specs.declared.Ended.{Ended}
-use Rattle.files.specs.Inside.{whySet}
-use Rattle.files.proofs.Parts.{ASet, a-set, no-set}
-use Rattle.files.proofs.MemberLoop.{set-bounds}
+use Rattle.files.specs.Inside.{why_set}
+use Rattle.files.proofs.Parts.{ASet, a_set, no_set}
+use Rattle.files.proofs.MemberLoop.{set_bounds}
 use Rattle.files.proofs.SetLoop.{Gathering, start, roomy, more, stops, finishes}
 use Rattle.files.proofs.sets.read_sets.Statement.{statement}
 use Rattle.files.proofs.sets.read_sets.Tie as tie
-use Rattle.files.specs.Parsing.{readSet}
+use Rattle.files.specs.Parsing.{read_set}
 
 abbrev invariant-loop : tie.invariant-loop
 invariant-loop file objects count ends₀ members₀ place₀ next₀ i₀ ends members place next i = Gathering objects count file next₀.at ends members place next.at i
@@ -47,19 +47,19 @@ why-set-requires c κs = search rules
 returns : tie.Need-returns invariant-loop decreases-loop
 returns c =
     let e = c.before.enum_told.given.1 in
-    let q = stops c.before.before.before.before.before.before.before.loop.invariant c.before.before.before.before.before.before.loop-test.true (no-set _ _ _ _ c.before.before.before.before.read_set.ensures e) in
-    rw q (ap Ended.Refused (c.why-set.ensures ∙ ap whySet e))
+    let q = stops c.before.before.before.before.before.before.before.loop.invariant c.before.before.before.before.before.before.loop-test.true (no_set _ _ _ _ c.before.before.before.before.read_set.ensures e) in
+    rw q (ap Ended.Refused (c.why-set.ensures ∙ ap why_set e))
 
 -- the set that was read
 set_is : (c : tie.After-known-told invariant-loop decreases-loop)
-    → ASet (readSet c.before.before.before.before.before.before.before.before.before.before.before.args.objects c.before.before.before.before.before.before.before.before.before.before.before.args.file.now c.before.before.before.before.before.before.before.loop.next.at) c.before.read.given.0.0 c.before.read.given.0.1.0
+    → ASet (read_set c.before.before.before.before.before.before.before.before.before.before.before.args.objects c.before.before.before.before.before.before.before.before.before.before.before.args.file.now c.before.before.before.before.before.before.before.loop.next.at) c.before.read.given.0.0 c.before.read.given.0.1.0
     c.before.before.before.before.before.before.before.loop.members c.before.before.before.before.before.before.before.loop.place c.before.before.before.before.read_set.new.1.1.1.0
-set_is c = a-set _ c.before.before.before.before.read_set.ensures c.before.read.given.1
+set_is c = a_set _ c.before.before.before.before.read_set.ensures c.before.read.given.1
 
 cast_ends : tie.Need-overflow-cast-ends invariant-loop decreases-loop
 cast_ends c =
     let s = set_is c in
-    let b = set-bounds _ _ _ s.read in
+    let b = set_bounds _ _ _ s.read in
     omega (arith, s.last, b.0, b.1, c.before.before.before.before.before.before.before.loop.invariant.behind, c.before.before.before.before.before.before.before.before.before.before.before.requires.0)
 
 mul-ends : tie.Need-overflow-mul-ends invariant-loop decreases-loop
@@ -87,8 +87,8 @@ returns-2 c =
     (record {
       few = omega (arith, g.counted, g.at_most, c.before.before.before.before.before.requires.2);
       count = omega (arith, g.counted, g.at_most, c.loop-test.false);
-      ends = g.held-ends;
-      members = g.held-members;
+      ends = g.held_ends;
+      members = g.held_members;
       ended = refl;
     })
 

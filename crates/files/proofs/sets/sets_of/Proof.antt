@@ -1,15 +1,15 @@
 use mathlib.Core.Path.{sym, ap, refl, ◌∙◌}
 use mathlib.Core.Bool.{true}
-use Rattle.files.specs.Held.{endsFrom, joined}
+use Rattle.files.specs.Held.{ends_from, joined}
 use native.Mathlib.Omega.{arith}
 use borrow.Author.Tests.{eq-eqb, ne_eqb}
 use Rattle.files.specs.declared.Ended.{Ended}
 use Rattle.files.specs.declared.sets.Sets.{Sets}
 use Rattle.opcodes.specs.Ranges.{within}
 use Rattle.files.specs.Program.{longest}
-use Rattle.files.specs.Inside.{whyRead, setsOf, setsAfter}
-use Rattle.opcodes.proofs.Bounds.{within-bounds}
-use Rattle.files.proofs.Judging.{field-small}
+use Rattle.files.specs.Inside.{why_read, sets_of, sets_after}
+use Rattle.opcodes.proofs.Bounds.{within_bounds}
+use Rattle.files.proofs.Judging.{field_small}
 use borrow.Author.Rules.{rules}
 use Rattle.files.proofs.sets.sets_of.Statement.{statement}
 use Rattle.files.proofs.sets.sets_of.Tie as tie
@@ -18,9 +18,9 @@ no-sets-requires : tie.Need-no-sets-requires
 no-sets-requires c κs = search rules
 
 returns : tie.Need-returns
-unfolding endsFrom joined
+unfolding ends_from joined
 returns c =
-    simp (ne_eqb _ _ c.before.if1.true, setsOf, c.no-sets.ensures)
+    simp (ne_eqb _ _ c.before.if1.true, sets_of, c.no_sets_lem.ensures)
     (record { few = omega arith; count = refl; ends = refl; members = refl; ended = refl })
 
 ranged-requires : tie.Need-ranged-requires
@@ -42,8 +42,8 @@ returns-2 : tie.Need-returns-2
 returns-2 c =
     let a = c.before.before.before.before.before.before.before.args in
     let e = c.before.before.enum_told.given.1 in
-    simp (eq-eqb _ _ c.before.before.before.before.before.if1.false, setsOf, ap (setsAfter a.objects a.file.now) (sym c.before.before.before.before.ranged.ensures ∙ e))
-    (ap (λ (s : Sets). s.ended) c.no-sets2.ensures ∙ ap Ended.Refused (c.before.why-read.ensures ∙ ap whyRead e))
+    simp (eq-eqb _ _ c.before.before.before.before.before.if1.false, sets_of, ap (sets_after a.objects a.file.now) (sym c.before.before.before.before.ranged.ensures ∙ e))
+    (ap (λ (s : Sets). s.ended) c.no-sets2.ensures ∙ ap Ended.Refused (c.before.why-read.ensures ∙ ap why_read e))
 
 cast-read-sets : tie.Need-overflow-cast-read-sets
 cast-read-sets c = search rules
@@ -51,15 +51,15 @@ cast-read-sets c = search rules
 read-sets-requires : tie.Need-read-sets-requires
 read-sets-requires c κs =
     let p = c.before.before.before.before.before.before.requires in
-    let count = field-small 5 (within 0 400) _ _ true 400 (λ n h. (within-bounds 0 400 n h).1) (sym c.before.before.before.ranged.ensures ∙ c.before.count-read.given.1) in
+    let count = field_small 5 (within 0 400) _ _ true 400 (λ n h. (within_bounds 0 400 n h).1) (sym c.before.before.before.ranged.ensures ∙ c.before.count-read.given.1) in
     let short = simp (eq-eqb _ _ c.before.before.before.before.if1.false, longest) at p.0 in
     (short, p.1, count)
 
 returns-3 : tie.Need-returns-3
 returns-3 c =
     let a = c.before.before.before.before.before.before.before.args in
-    simp (eq-eqb _ _ c.before.before.before.before.before.if1.false, setsOf, ap (setsAfter a.objects a.file.now) (sym c.before.before.before.before.ranged.ensures ∙ c.before.before.count-read.given.1))
-    c.read-sets.ensures
+    simp (eq-eqb _ _ c.before.before.before.before.before.if1.false, sets_of, ap (sets_after a.objects a.file.now) (sym c.before.before.before.before.ranged.ensures ∙ c.before.before.count-read.given.1))
+    c.read_sets.ensures
 
 pub sets-of-spec : {M : Type 1} → statement M
 sets-of-spec =

@@ -1,4 +1,4 @@
-use Rattle.files.specs.Inside.{whySet}
+use Rattle.files.specs.Inside.{why_set}
 use borrow.Author.Rules.{rules}
 use Rattle.files.proofs.sets.why_set.Statement.{statement}
 use Rattle.files.proofs.sets.why_set.Tie as tie
@@ -10,7 +10,7 @@ enum-known-read : tie.Need-enum-known-read
 enum-known-read c = search rules
 
 returns : tie.Need-returns
-returns c = rw (c.enum_told.given.1, whySet)
+returns c = rw (c.enum_told.given.1, why_set)
 
 returns-2 : tie.Need-returns-2
 returns-2 c = search rules

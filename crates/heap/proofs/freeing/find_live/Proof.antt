@@ -5,21 +5,21 @@ use Prim.Native.Nat.{◌+◌, ◌-◌, ◌≤◌, ◌<◌}
 use mathlib.Core.Path.{sym, ◌∙◌}
 use native.Mathlib.Omega.{arith}
 use borrow.Author.Tests.{not-true, not-false}
-use Rattle.heap.specs.Heap.{endSlot, heapStart, walk}
+use Rattle.heap.specs.Heap.{end_slot, heap_start, walk}
 use Rattle.heap.specs.Search.{live_in, start_in}
-use Rattle.heap.proofs.Walks.{Way, Sound, block_of, way-starts, way-done, way-stops, way-goes, says, live-step, spare-below}
+use Rattle.heap.proofs.Walks.{Way, Sound, block_of, way_starts, way_done, way_stops, way_goes, says, live_step, spare_below}
 use Rattle.heap.proofs.freeing.find_live.Statement.{statement}
 use Rattle.heap.proofs.freeing.find_live.Tie as tie
 
 abbrev invariant-loop : tie.invariant-loop
 invariant-loop memory address start₀ spare₀ at₀ start spare at = Way memory at (live_in start spare address)
-    (live_in 0 0 address (walk memory)) × (spare + heapStart ≤ at)
+    (live_in 0 0 address (walk memory)) × (spare + heap_start ≤ at)
 
 abbrev decreases-loop : tie.decreases-loop
-decreases-loop memory address start₀ spare₀ at₀ start spare at = endSlot - at
+decreases-loop memory address start₀ spare₀ at₀ start spare at = end_slot - at
 
 loop-holds : tie.Need-loop-init invariant-loop decreases-loop
-loop-holds c = (way-starts _ _, omega arith)
+loop-holds c = (way_starts _ _, omega arith)
 
 size-at-requires : tie.Need-size-at-requires invariant-loop decreases-loop
 size-at-requires c κs = omega (arith, c.before.loop.invariant.0.high)
@@ -31,8 +31,8 @@ is-sound-requires : tie.Need-is-sound-requires invariant-loop decreases-loop
 is-sound-requires c κs = omega arith
 
 returns : tie.Need-returns invariant-loop decreases-loop
-returns c = way-stops c.before.before.before.before.loop.invariant.0 c.before.before.size-at.result
-    c.before.before.before.loop-test.true c.before.before.size-at.ensures
+returns c = way_stops c.before.before.before.before.loop.invariant.0 c.before.before.size_at_lem.result
+    c.before.before.before.loop-test.true c.before.before.size_at_lem.ensures
     (sym c.before.is-sound.ensures ∙ not-true _ c.if1.true)
 
 mark-at-requires : tie.Need-mark-at-requires invariant-loop decreases-loop
@@ -52,27 +52,27 @@ add-at-2 c = omega arith
 
 loop-less : tie.Need-loop-smaller invariant-loop decreases-loop
 loop-less c = let w = c.before.before.before.before.before.before.before.loop in
-    let size = c.before.before.before.before.before.size-at in
-    let below : w.at < endSlot = c.before.before.before.before.before.before.loop-test.true in
+    let size = c.before.before.before.before.before.size_at_lem in
+    let below : w.at < end_slot = c.before.before.before.before.before.before.loop-test.true in
     let known : Sound w.at size.result = says w.invariant.0 size.result below size.ensures
     (sym c.before.before.before.before.is-sound.ensures ∙ not-false _ c.before.before.before.if1.false) in
     omega arith
 
 loop-again : tie.Need-loop-preserved invariant-loop decreases-loop
 loop-again c = let w = c.before.before.before.before.before.before.before.loop in
-    let size = c.before.before.before.before.before.size-at in
+    let size = c.before.before.before.before.before.size_at_lem in
     let mark = c.before.before.mark-at in
-    let below : w.at < endSlot = c.before.before.before.before.before.before.loop-test.true in
+    let below : w.at < end_slot = c.before.before.before.before.before.before.loop-test.true in
     let s = sym c.before.before.before.before.is-sound.ensures ∙ not-false _ c.before.before.before.if1.false in
-    let spared = spare-below w.at size.result mark.result c.Spare-of.result c.Spare-of.ensures in (
-      way-goes w.invariant.0 size.result below size.ensures mark.result mark.ensures s _
-          (live-step _ _ _ (block_of w.at size.result mark.result) _ _ c.before.start_of_lem.ensures c.Spare-of.ensures),
+    let spared = spare_below w.at size.result mark.result c.Spare-of.result c.Spare-of.ensures in (
+      way_goes w.invariant.0 size.result below size.ensures mark.result mark.ensures s _
+          (live_step _ _ _ (block_of w.at size.result mark.result) _ _ c.before.start_of_lem.ensures c.Spare-of.ensures),
       omega (arith, spared, w.invariant.0.low),
     )
 
 returns-2 : tie.Need-returns-2 invariant-loop decreases-loop
 unfolding start_in
-returns-2 c = way-done c.before.loop.invariant.0 c.loop-test.false
+returns-2 c = way_done c.before.loop.invariant.0 c.loop-test.false
 
 pub find-live-spec : {M : Type 1} → statement M
 find-live-spec =

@@ -1,15 +1,15 @@
 -- `heap::freeing::free` meets its contract. Each return by its law of Lives.
 use mathlib.Core.Path.{sym, ◌∙◌}
 use borrow.Author.Rules.{rules}
-use Rattle.heap.proofs.Lives.{wrong-memory, wrong-table, stopped, Found, found, found_none, found-joins, found-freed}
+use Rattle.heap.proofs.Lives.{wrong_memory, wrong_table, stopped, Found, found, found_none, found_joins, found_freed}
 use Rattle.heap.proofs.freeing.free.Statement.{statement}
 use Rattle.heap.proofs.freeing.free.Tie as tie
 
 returns : tie.Need-returns
-returns c = let s = c.before.before.before.args in wrong-memory s.memory.now s.table.now s.address c.if1.true
+returns c = let s = c.before.before.before.args in wrong_memory s.memory.now s.table.now s.address c.if1.true
 
 returns-2 : tie.Need-returns-2
-returns-2 c = let s = c.before.before.before.before.args in wrong-table s.memory.now s.table.now s.address
+returns-2 c = let s = c.before.before.before.before.args in wrong_table s.memory.now s.table.now s.address
     c.before.if1.false c.if2.true
 
 find-live-requires : tie.Need-find-live-requires
@@ -49,7 +49,7 @@ returns-4 : tie.Need-returns-4
 returns-4 c = found_none (spot c.before.before) c.if3.true
 
 join-requires : tie.Need-join-requires
-join-requires c κs = found-joins (spot c.before.before.before.before) c.before.before.if3.false
+join-requires c κs = found_joins (spot c.before.before.before.before) c.before.before.if3.false
 
 same-length-3 : tie.Need-same-length-3
 same-length-3 c = search rules
@@ -60,7 +60,7 @@ same-length-4 c = search rules
 returns-5 : tie.Need-returns-5
 returns-5 c = let h = c.before.before.before.before.before.before.before in
     let join = c.before.before.before.before.join in
-    found-freed (spot h.before.before) h.if3.false _ _ join.ensures.0 join.ensures.1
+    found_freed (spot h.before.before) h.if3.false _ _ join.ensures.0 join.ensures.1
 
 pub free_spec : {M : Type 1} → statement M
 free_spec =

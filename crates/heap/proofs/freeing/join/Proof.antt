@@ -3,9 +3,9 @@ use Prim.Native.Nat.{ℕ, ◌+◌, ◌-◌}
 use mathlib.Core.Path.{ap, ◌∙◌}
 use native.Mathlib.Omega.{arith}
 use borrow.Author.Rules.{rules}
-use Rattle.heap.specs.Heap.{putHeader}
+use Rattle.heap.specs.Heap.{put_header}
 use Rattle.memory.specs.Memory.{paint}
-use Rattle.memory.proofs.Exact.{painted-exact}
+use Rattle.memory.proofs.Exact.{painted_exact}
 use Rattle.heap.proofs.Taking.{joined_end}
 use Rattle.heap.proofs.freeing.join.Statement.{statement}
 use Rattle.heap.proofs.freeing.join.Tie as tie
@@ -27,7 +27,7 @@ spare-at-requires c κs = search rules
 
 add-whole : tie.Need-overflow-add-whole
 add-whole c = let s = c.before.before.before.before.before.before.args in
-    let ends = joined_end s.memory.now s.address _ _ c.before.before.size-at.ensures c.spare-at.ensures in
+    let ends = joined_end s.memory.now s.address _ _ c.before.before.size_at_lem.ensures c.spare-at.ensures in
     omega (arith, ends, c.before.before.before.before.before.before.requires.ends)
 
 sub-whole : tie.Need-overflow-sub-whole
@@ -38,7 +38,7 @@ sub-whole-2 c = search rules
 
 cast-whole : tie.Need-overflow-cast-whole
 cast-whole c = let s = c.before.before.before.before.before.before.args in
-    let ends = joined_end s.memory.now s.address _ _ c.before.before.size-at.ensures c.spare-at.ensures in
+    let ends = joined_end s.memory.now s.address _ _ c.before.before.size_at_lem.ensures c.spare-at.ensures in
     omega (arith, ends, c.before.before.before.before.before.before.requires.ends)
 
 put-header-requires : tie.Need-put-header-requires
@@ -62,14 +62,14 @@ same-length-2 c = search rules
 returns : tie.Need-returns
 returns c = let s = c.before.before.before.before.before.before.before.before.before.before.before.before.before.before.args in
     let p = c.before.before.before.before.before.before.before.before.before.before.before.before.before.before.requires in
-    let size = c.before.before.before.before.before.before.before.before.before.before.size-at in
+    let size = c.before.before.before.before.before.before.before.before.before.before.size_at_lem in
     let spare = c.before.before.before.before.before.before.before.before.spare-at in
     let ends = joined_end s.memory.now s.address _ _ size.ensures spare.ensures in
     let whole : ℕ = s.address + size.result + spare.result - s.start - 8 in (
       c.before.before.before.before.before.before.put-header.ensures ∙ ap
-          (λ x. putHeader s.memory.now s.start (x - s.start - 8) 0) ends,
+          (λ x. put_header s.memory.now s.start (x - s.start - 8) 0) ends,
       c.before.before.paint.ensures
-          ∙ painted-exact s.table.now (s.start + 8) whole 0 (omega (arith, ends, p.ends, p.table, p.above))
+          ∙ painted_exact s.table.now (s.start + 8) whole 0 (omega (arith, ends, p.ends, p.table, p.above))
           ∙ ap (λ x. paint s.table.now (s.start + 8) (x - s.start - 8) 0) ends,
     )
 

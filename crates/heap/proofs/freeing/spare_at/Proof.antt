@@ -2,14 +2,14 @@
 use mathlib.Core.Path.{refl, ap₂, ◌∙◌}
 use borrow.Author.Rules.{rules}
 use borrow.Author.Tests.{eq-eqb, ne_eqb}
-use Rattle.heap.specs.Heap.{block_at, endSlot}
-use Rattle.heap.specs.Search.{spare_of, spareAt}
+use Rattle.heap.specs.Heap.{block_at, end_slot}
+use Rattle.heap.specs.Search.{spare_of, spare_at}
 use Rattle.heap.proofs.Walks.{block_of}
 use Rattle.heap.proofs.freeing.spare_at.Statement.{statement}
 use Rattle.heap.proofs.freeing.spare_at.Tie as tie
 
 returns : tie.Need-returns
-returns c = rw (eq-eqb c.before.before.args.header endSlot c.if1.true, spareAt) refl
+returns c = rw (eq-eqb c.before.before.args.header end_slot c.if1.true, spare_at) refl
 
 size-at-requires : tie.Need-size-at-requires
 size-at-requires c κs = search rules
@@ -26,8 +26,8 @@ spare-of-requires c κs = search rules
 returns-2 : tie.Need-returns-2
 unfolding block_at
 returns-2 c = let s = c.before.before.before.before.before.args in
-    rw (ne_eqb s.header endSlot c.before.before.before.if1.false, spareAt)
-    (c.Spare-of.ensures ∙ ap₂ (λ x y. spare_of (block_of s.header x y)) c.before.before.size-at.ensures
+    rw (ne_eqb s.header end_slot c.before.before.before.if1.false, spare_at)
+    (c.Spare-of.ensures ∙ ap₂ (λ x y. spare_of (block_of s.header x y)) c.before.before.size_at_lem.ensures
     c.before.mark-at.ensures)
 
 pub spare-at-spec : {M : Type 1} → statement M

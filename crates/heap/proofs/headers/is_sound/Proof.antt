@@ -1,11 +1,11 @@
 -- `heap::headers::is_sound` meets its contract. The tests are those of `sound`, in its order.
 use borrow.Author.Rules.{rules}
-use Rattle.heap.proofs.Blocks.{not-whole, too_short, by_end}
+use Rattle.heap.proofs.Blocks.{not_whole, too_short, by_end}
 use Rattle.heap.proofs.headers.is_sound.Statement.{statement}
 use Rattle.heap.proofs.headers.is_sound.Tie as tie
 
 returns : tie.Need-returns
-returns c = not-whole _ _ c.if1.true
+returns c = not_whole _ _ c.if1.true
 
 returns-2 : tie.Need-returns-2
 returns-2 c = too_short _ _ c.before.if1.false c.if2.true

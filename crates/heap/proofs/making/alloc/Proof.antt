@@ -1,20 +1,20 @@
 -- `heap::making::alloc` meets its contract. Each return by its law of Fits.
 use mathlib.Core.Path.{sym, ◌∙◌}
 use borrow.Author.Rules.{rules}
-use Rattle.heap.proofs.Fits.{wrong-memory, wrong-table, size-zero, size_above, stopped, Found, found, found_none, found-fits, found-made}
+use Rattle.heap.proofs.Fits.{wrong_memory, wrong_table, size_zero, size_above, stopped, Found, found, found_none, found_fits, found_made}
 use Rattle.heap.proofs.making.alloc.Statement.{statement}
 use Rattle.heap.proofs.making.alloc.Tie as tie
 
 returns : tie.Need-returns
-returns c = let s = c.before.before.before.args in wrong-memory s.memory.now s.table.now s.size s.site
+returns c = let s = c.before.before.before.args in wrong_memory s.memory.now s.table.now s.size s.site
     s.color c.if1.true
 
 returns-2 : tie.Need-returns-2
-returns-2 c = let s = c.before.before.before.before.args in wrong-table s.memory.now s.table.now s.size s.site
+returns-2 c = let s = c.before.before.before.before.args in wrong_table s.memory.now s.table.now s.size s.site
     s.color c.before.if1.false c.if2.true
 
 returns-3 : tie.Need-returns-3
-returns-3 c = let s = c.before.before.before.before.before.args in size-zero s.memory.now s.table.now s.size
+returns-3 c = let s = c.before.before.before.before.before.args in size_zero s.memory.now s.table.now s.size
     s.site s.color c.before.before.if1.false c.before.if2.false c.if3.true
 
 returns-4 : tie.Need-returns-4
@@ -69,7 +69,7 @@ add-mark : tie.Need-overflow-add-mark
 add-mark c = search rules
 
 take-block-requires : tie.Need-take-block-requires
-take-block-requires c κs = found-fits (fit c.before.before.before.before) c.before.before.if5.false
+take-block-requires c κs = found_fits (fit c.before.before.before.before) c.before.before.if5.false
 
 same-length-3 : tie.Need-same-length-3
 same-length-3 c = search rules
@@ -79,7 +79,7 @@ same-length-4 c = search rules
 
 returns-7 : tie.Need-returns-7
 returns-7 c = let h = c.before.before.before.before.before.before.before in
-    found-made (fit h.before.before) h.if5.false _ _ _ c.before.before.before.before.take-block.ensures
+    found_made (fit h.before.before) h.if5.false _ _ _ c.before.before.before.before.take-block.ensures
 
 pub alloc-spec : {M : Type 1} → statement M
 alloc-spec =

@@ -4,20 +4,20 @@ use Prim.Native.Nat.{◌-◌}
 use mathlib.Core.Path.{sym, ◌∙◌}
 use native.Mathlib.Omega.{arith}
 use borrow.Author.Tests.{not-true, not-false}
-use Rattle.heap.specs.Heap.{endSlot, walk}
-use Rattle.heap.specs.Search.{foundIn, fitIn}
-use Rattle.heap.proofs.Walks.{Way, Sound, block_of, way-starts, way-done, way-stops, way-goes, says, fit-step}
+use Rattle.heap.specs.Heap.{end_slot, walk}
+use Rattle.heap.specs.Search.{found_in, fit_in}
+use Rattle.heap.proofs.Walks.{Way, Sound, block_of, way_starts, way_done, way_stops, way_goes, says, fit_step}
 use Rattle.heap.proofs.making.first_fit.Statement.{statement}
 use Rattle.heap.proofs.making.first_fit.Tie as tie
 
 abbrev invariant-loop : tie.invariant-loop
-invariant-loop memory want found₀ at₀ found at = Way memory at (fitIn found want) (fitIn 0 want (walk memory))
+invariant-loop memory want found₀ at₀ found at = Way memory at (fit_in found want) (fit_in 0 want (walk memory))
 
 abbrev decreases-loop : tie.decreases-loop
-decreases-loop memory want found₀ at₀ found at = endSlot - at
+decreases-loop memory want found₀ at₀ found at = end_slot - at
 
 loop-holds : tie.Need-loop-init invariant-loop decreases-loop
-loop-holds c = way-starts _ _
+loop-holds c = way_starts _ _
 
 size-at-requires : tie.Need-size-at-requires invariant-loop decreases-loop
 size-at-requires c κs = omega (arith, c.before.loop.invariant.high)
@@ -29,8 +29,8 @@ is-sound-requires : tie.Need-is-sound-requires invariant-loop decreases-loop
 is-sound-requires c κs = omega arith
 
 returns : tie.Need-returns invariant-loop decreases-loop
-returns c = way-stops c.before.before.before.before.loop.invariant c.before.before.size-at.result
-    c.before.before.before.loop-test.true c.before.before.size-at.ensures
+returns c = way_stops c.before.before.before.before.loop.invariant c.before.before.size_at_lem.result
+    c.before.before.before.loop-test.true c.before.before.size_at_lem.ensures
     (sym c.before.is-sound.ensures ∙ not-true _ c.if1.true)
 
 mark-at-requires : tie.Need-mark-at-requires invariant-loop decreases-loop
@@ -47,23 +47,23 @@ add-at-2 c = omega arith
 
 loop-less : tie.Need-loop-smaller invariant-loop decreases-loop
 loop-less c = let known : Sound c.before.before.before.before.before.before.loop.at
-    c.before.before.before.before.size-at.result =
-    says c.before.before.before.before.before.before.loop.invariant c.before.before.before.before.size-at.result
-    c.before.before.before.before.before.loop-test.true c.before.before.before.before.size-at.ensures
+    c.before.before.before.before.size_at_lem.result =
+    says c.before.before.before.before.before.before.loop.invariant c.before.before.before.before.size_at_lem.result
+    c.before.before.before.before.before.loop-test.true c.before.before.before.before.size_at_lem.ensures
     (sym c.before.before.before.is-sound.ensures ∙ not-false _ c.before.before.if1.false) in
     omega (arith, c.before.before.before.before.before.loop-test.true)
 
 loop-again : tie.Need-loop-preserved invariant-loop decreases-loop
-loop-again c = way-goes c.before.before.before.before.before.before.loop.invariant
-    c.before.before.before.before.size-at.result c.before.before.before.before.before.loop-test.true
-    c.before.before.before.before.size-at.ensures c.before.mark-at.result c.before.mark-at.ensures
+loop-again c = way_goes c.before.before.before.before.before.before.loop.invariant
+    c.before.before.before.before.size_at_lem.result c.before.before.before.before.before.loop-test.true
+    c.before.before.before.before.size_at_lem.ensures c.before.mark-at.result c.before.mark-at.ensures
     (sym c.before.before.before.is-sound.ensures ∙ not-false _ c.before.before.if1.false) _
-    (fit-step _ _ (block_of c.before.before.before.before.before.before.loop.at
-    c.before.before.before.before.size-at.result c.before.mark-at.result) _ c.first_of.ensures)
+    (fit_step _ _ (block_of c.before.before.before.before.before.before.loop.at
+    c.before.before.before.before.size_at_lem.result c.before.mark-at.result) _ c.first_of.ensures)
 
 returns-2 : tie.Need-returns-2 invariant-loop decreases-loop
-unfolding foundIn
-returns-2 c = way-done c.before.loop.invariant c.loop-test.false
+unfolding found_in
+returns-2 c = way_done c.before.loop.invariant c.loop-test.false
 
 pub first-fit-spec : {M : Type 1} → statement M
 first-fit-spec =

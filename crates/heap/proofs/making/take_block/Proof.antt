@@ -4,8 +4,8 @@ use mathlib.Core.Path.{◌∙◌}
 use native.Mathlib.Omega.{arith}
 use borrow.Author.Rules.{rules}
 use Rattle.memory.specs.Memory.{number_at}
-use Rattle.memory.proofs.Exact.{painted-exact}
-use Rattle.heap.proofs.Taking.{taken-whole, taken-cut}
+use Rattle.memory.proofs.Exact.{painted_exact}
+use Rattle.heap.proofs.Taking.{taken_whole, taken_cut}
 use Rattle.heap.proofs.making.take_block.Statement.{statement}
 use Rattle.heap.proofs.making.take_block.Tie as tie
 
@@ -30,8 +30,8 @@ same-length-2 c = search rules
 returns : tie.Need-returns
 returns c = let s = c.before.before.before.before.before.before.before.before.before.before.before.before.args in
     let out = c.before.before.before.before.hand-out in
-    taken-whole s.memory.now s.table.now s.header s.want s.mark s.color _ _ _ _
-    c.before.before.before.before.before.before.before.before.size-at.ensures
+    taken_whole s.memory.now s.table.now s.header s.want s.mark s.color _ _ _ _
+    c.before.before.before.before.before.before.before.before.size_at_lem.ensures
     c.before.before.before.before.before.before.before.if1.true
     out.ensures.0 out.ensures.1.0 out.ensures.1.1
 
@@ -71,15 +71,15 @@ same-length-4 c = search rules
 returns-2 : tie.Need-returns-2
 returns-2 c = let s = c.before.before.before.before.before.before.before.before.before.before.before.before.before.before.before.before.before.before.before.before.args in
     let p = c.before.before.before.before.before.before.before.before.before.before.before.before.before.before.before.before.before.before.before.before.requires in
-    let size = c.before.before.before.before.before.before.before.before.before.before.before.before.before.before.before.before.size-at in
+    let size = c.before.before.before.before.before.before.before.before.before.before.before.before.before.before.before.before.size_at_lem in
     let fits : s.want + 16 ≤ number_at 4 s.memory.now s.header = omega (arith, size.ensures, c.before.before.before.before.before.before.before.before.before.before.before.before.before.before.before.if1.false) in
     let out = c.before.before.before.before.hand-out2 in
-    taken-cut s.memory.now s.table.now s.header s.want s.mark s.color _ _ _ _ _ _
+    taken_cut s.memory.now s.table.now s.header s.want s.mark s.color _ _ _ _ _ _
     size.ensures
     c.before.before.before.before.before.before.before.before.before.before.before.before.before.before.before.if1.false
     c.before.before.before.before.before.before.before.before.before.before.before.before.before.put-header.ensures
     (c.before.before.before.before.before.before.before.before.before.paint.ensures
-    ∙ painted-exact s.table.now (s.header + 8 + s.want) 8 1 (omega (arith, p.table, p.ends, fits)))
+    ∙ painted_exact s.table.now (s.header + 8 + s.want) 8 1 (omega (arith, p.table, p.ends, fits)))
     out.ensures.0 out.ensures.1.0 out.ensures.1.1
 
 pub take-block-spec : {M : Type 1} → statement M

@@ -7,14 +7,14 @@ use Prim.Native.Nat.{◌-◌, ◌<◌}
 use lib.ListN.{get_or}
 use native.Mathlib.Omega.{arith}
 use borrow.Author.Rules.{rules}
-use Rattle.checks.specs.Held.{checkIn}
-use Rattle.instrumenter.proofs.Turns.{blank, Upto, Half, upto-none, half-check, half-nothing, upto-more}
+use Rattle.checks.specs.Held.{check_in}
+use Rattle.instrumenter.proofs.Turns.{blank, Upto, Half, upto_none, half_check, half_nothing, upto_more}
 use Rattle.instrumenter.proofs.passes.guarded_code.Statement.{statement}
 use Rattle.instrumenter.proofs.passes.guarded_code.Tie as tie
 
 abbrev invariant-loop : tie.invariant-loop
 invariant-loop lines places sizes colors ends members code guarded₀ next₀ at₀ guarded next at =
-    Upto (checkIn sizes colors ends members) (λ t. get_or places t 0) code lines at next guarded
+    Upto (check_in sizes colors ends members) (λ t. get_or places t 0) code lines at next guarded
 
 abbrev decreases-loop : tie.decreases-loop
 decreases-loop lines places sizes colors ends members code guarded₀ next₀ at₀ guarded next at = lines - at
@@ -23,24 +23,24 @@ decreases-loop lines places sizes colors ends members code guarded₀ next₀ at
 half : (c : tie.At-match-branch invariant-loop decreases-loop)
     → let s = c.before.before.before.before.before.before.before.before.before in
     let turn = c.before.before.before.before.loop in
-    Half (checkIn s.args.sizes.now s.args.colors.now s.args.ends.now s.args.members.now) (λ t. get_or s.args.places.now t 0) s.args.t2
+    Half (check_in s.args.sizes.now s.args.colors.now s.args.ends.now s.args.members.now) (λ t. get_or s.args.places.now t 0) s.args.t2
     turn.at (get_or s.args.t2 turn.at blank).instr c.match.next c.match.guarded
 half c =
     let s = c.before.before.before.before.before.before.before.before.before in
     let turn = c.before.before.before.before.loop in
     let check = c.before.check-before in
     ⊎_elim
-    (λ w. half-check _ _ _ s.args.lines _ _ _ turn.invariant _ check.result check.ensures (omega (arith, c.before.before.before.loop-test.true, s.requires)) _ w.1.given.1 _ _ w.3 w.4)
-    (λ w. half-nothing _ _ _ s.args.lines _ _ _ turn.invariant _ check.result check.ensures w.0.keys2 _ _ w.2 w.3)
+    (λ w. half_check _ _ _ s.args.lines _ _ _ turn.invariant _ check.result check.ensures (omega (arith, c.before.before.before.loop-test.true, s.requires)) _ w.1.given.1 _ _ w.3 w.4)
+    (λ w. half_nothing _ _ _ s.args.lines _ _ _ turn.invariant _ check.result check.ensures w.0.keys2 _ _ w.2 w.3)
     c.match.branch
 
 -- so the copy still finds room
 next-inside : (c : tie.At-match-branch invariant-loop decreases-loop) → c.match.next < 2000
-next-inside c = omega (arith, (half c).next-most, c.before.before.before.loop-test.true, c.before.before.before.before.before.before.before.before.before.requires)
+next-inside c = omega (arith, (half c).next_most, c.before.before.before.loop-test.true, c.before.before.before.before.before.before.before.before.before.requires)
 
 loop-holds : tie.Need-loop-init invariant-loop decreases-loop
 unfolding filled
-loop-holds c = upto-none _ _ _ _
+loop-holds c = upto_none _ _ _ _
 
 mul-old : tie.Need-overflow-mul-old invariant-loop decreases-loop
 mul-old c = omega arith
@@ -93,14 +93,14 @@ loop-again c =
     let turn = c.before.before.before.before.before.before.loop in
     let met = c.before.before in
     let copy = c.before.copy_of in
-    upto-more _ _ _ _ turn.at met.match.next met.match.guarded _ copy.result s.well-formed.1.0.1.0.1 s.requires
+    upto_more _ _ _ _ turn.at met.match.next met.match.guarded _ copy.result s.well-formed.1.0.1.0.1 s.requires
     c.before.before.before.before.before.loop-test.true (half met) refl copy.ensures
 
 returns : tie.Need-returns invariant-loop decreases-loop
 returns c =
     let inv = c.before.loop.invariant in
     let e : c.before.loop.at ≡ c.before.before.before.before.before.before.args.lines = omega (arith, inv.inside, c.loop-test.false) in
-    record { count-is = rw (← e) inv.next-is; code_is = rw (← e) inv.out-is }
+    record { count_is = rw (← e) inv.next_is; code_is = rw (← e) inv.out_is }
 
 pub guarded-code-spec : {M : Type 1} → statement M
 guarded-code-spec =

@@ -6,20 +6,20 @@ use mathlib.Core.Path.{◌≡◌, refl, ◌∙◌, ap}
 use mathlib.Core.List.{List}
 use Rattle.opcodes.specs.declared.Instr.{Instr}
 use native.Mathlib.Omega.{arith}
-use Rattle.checks.specs.Held.{checkIn}
-use Rattle.instrumenter.proofs.Turns.{Placed, placed-none, placed-more}
+use Rattle.checks.specs.Held.{check_in}
+use Rattle.instrumenter.proofs.Turns.{Placed, placed_none, placed_more}
 use Rattle.instrumenter.proofs.passes.new_places.Statement.{statement}
 use Rattle.instrumenter.proofs.passes.new_places.Tie as tie
 
 abbrev invariant-loop : tie.invariant-loop
 invariant-loop lines sizes colors ends members code places₀ place₀ at₀ places place at =
-    Placed (checkIn sizes colors ends members) code lines at place places
+    Placed (check_in sizes colors ends members) code lines at place places
 
 abbrev decreases-loop : tie.decreases-loop
 decreases-loop lines sizes colors ends members code places₀ place₀ at₀ places place at = lines - at
 
 loop-holds : tie.Need-loop-init invariant-loop decreases-loop
-loop-holds c = placed-none _ _ _ _ refl
+loop-holds c = placed_none _ _ _ _ refl
 
 mul-places : tie.Need-overflow-mul-places invariant-loop decreases-loop
 mul-places c = omega arith
@@ -52,10 +52,10 @@ loop-again : tie.Need-loop-preserved invariant-loop decreases-loop
 loop-again c =
     let s = c.before.before.before.before.before.before.before.before in
     let turn = c.before.before.before.before.loop in
-    let sum : c.Span-of.result ≡ length (checkIn s.args.sizes.now s.args.colors.now s.args.ends.now s.args.members.now _) + 1 =
+    let sum : c.Span-of.result ≡ length (check_in s.args.sizes.now s.args.colors.now s.args.ends.now s.args.members.now _) + 1 =
     c.Span-of.ensures.0 ∙ ap (λ (l : List Instr). length l + 1) c.before.check-before.ensures
     in
-    placed-more _ _ _ turn.at turn.place c.Span-of.result turn.places s.well-formed.1.0.1.0.1 s.requires
+    placed_more _ _ _ turn.at turn.place c.Span-of.result turn.places s.well-formed.1.0.1.0.1 s.requires
     c.before.before.before.loop-test.true turn.invariant _ refl sum c.Span-of.ensures.1
 
 returns : tie.Need-returns invariant-loop decreases-loop

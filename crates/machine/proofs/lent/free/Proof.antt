@@ -1,4 +1,4 @@
-use Rattle.machine.proofs.Parts.{frees-none, frees}
+use Rattle.machine.proofs.Parts.{frees_none, frees}
 use Rattle.std.proofs.Common.{refl, rules}
 use Rattle.machine.proofs.lent.free.Statement.{statement}
 use Rattle.machine.proofs.lent.free.Tie as tie
@@ -11,7 +11,7 @@ completed-requires c κs = search rules
 
 returns : tie.Need-returns
 returns c = let a = c.before.before.before.before.before.before.args in
-    frees-none a.from a.memory.now a.table.now c.before.if1.true c.before.before.value.ensures c.completed.ensures
+    frees_none a.from a.memory.now a.table.now c.before.if1.true c.before.before.value.ensures c.completed.ensures
 
 free-requires : tie.Need-free-requires
 free-requires c κs = search rules

@@ -1,4 +1,4 @@
-use Rattle.machine.proofs.Parts.{loads, loads-not}
+use Rattle.machine.proofs.Parts.{loads, loads_not}
 use Rattle.std.proofs.Common.{rules}
 use Rattle.machine.proofs.lent.load32.Statement.{statement}
 use Rattle.machine.proofs.lent.load32.Tie as tie
@@ -31,7 +31,7 @@ same-length-2 c = search rules
 
 returns-2 : tie.Need-returns-2
 returns-2 c = let a = c.before.before.before.before.before.before.before.args in
-    loads-not a.from 4 a.memory.now a.temps.now a.d c.before.before.load32.ensures c.before.before.before.value.ensures c.enum_told.given.1
+    loads_not a.from 4 a.memory.now a.temps.now a.d c.before.before.load32.ensures c.before.before.before.value.ensures c.enum_told.given.1
 
 pub load32-spec : {M : Type 1} → statement M
 load32-spec =

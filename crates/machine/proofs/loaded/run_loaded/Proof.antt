@@ -2,7 +2,7 @@
 use Rattle.std.proofs.Common.{◌∙◌, rules}
 use borrow.Author.Tests.{not-true, not-false}
 use Rattle.machine.specs.Running.{lent_of}
-use Rattle.machine.proofs.Loading.{low-laid, runs-laid, says-long, says-fits}
+use Rattle.machine.proofs.Loading.{low_laid, runs_laid, says_long, says_fits}
 use Rattle.machine.proofs.loaded.run_loaded.Statement.{statement}
 use Rattle.machine.proofs.loaded.run_loaded.Tie as tie
 
@@ -21,15 +21,15 @@ same-length-2 c = search rules
 returns : tie.Need-returns
 returns c = let a = c.before.before.before.before.before.before.before.before.before.before.before.before.before.before.before.before.before.before.args in
     let s = c.before.before.before.before.before.before.before.lay in
-    runs-laid a.held a.input.now a.limit (lent_of a.memory.now a.table.now a.room.now) s.ensures.0 s.ensures.1.0 s.ensures.1.1
-    (says-long a.held a.input.now a.limit (lent_of a.memory.now a.table.now a.room.now) s.result (lent_of s.new.1.1.1.1.0 s.new.1.1.1.1.1.0 a.room.now) (not-true _ c.before.if1.true) c.refused.ensures)
+    runs_laid a.held a.input.now a.limit (lent_of a.memory.now a.table.now a.room.now) s.ensures.0 s.ensures.1.0 s.ensures.1.1
+    (says_long a.held a.input.now a.limit (lent_of a.memory.now a.table.now a.room.now) s.result (lent_of s.new.1.1.1.1.0 s.new.1.1.1.1.1.0 a.room.now) (not-true _ c.before.if1.true) c.refused.ensures)
 
 run-code-requires : tie.Need-run-code-requires
 run-code-requires c κs = let s = c.before.before.before.before.before.before.before.before.before.before.before.before.before.before.before.before.before.before.before.before.before in
     let a = s.args in
     let l = c.before.before.before.before.before.before.before.before.before.before.lay in (
       s.requires.lines,
-      low-laid a.held a.input.now a.limit (lent_of a.memory.now a.table.now a.room.now) l.ensures.0 (not-false _ c.before.before.before.before.if1.false),
+      low_laid a.held a.input.now a.limit (lent_of a.memory.now a.table.now a.room.now) l.ensures.0 (not-false _ c.before.before.before.before.if1.false),
       l.auto.1.1.1.1.0 ∙ s.requires.memory,
       l.auto.1.1.1.1.1.0 ∙ s.requires.table,
       s.requires.temps,
@@ -47,8 +47,8 @@ same-length-5 c = search rules
 returns-2 : tie.Need-returns-2
 returns-2 c = let a = c.before.before.before.before.before.before.before.before.before.before.before.before.before.before.before.before.before.before.before.before.before.before.before.before.before.before.before.before.args in
     let s = c.before.before.before.before.before.before.before.before.before.before.before.before.before.before.before.before.before.lay in
-    runs-laid a.held a.input.now a.limit (lent_of a.memory.now a.table.now a.room.now) s.ensures.0 s.ensures.1.0 s.ensures.1.1
-    (says-fits a.held a.input.now a.limit (lent_of a.memory.now a.table.now a.room.now) s.result (lent_of s.new.1.1.1.1.0 s.new.1.1.1.1.1.0 a.room.now) (not-false _ c.before.before.before.before.before.before.before.before.before.before.before.if1.false) c.before.before.before.before.before.before.run-code.ensures)
+    runs_laid a.held a.input.now a.limit (lent_of a.memory.now a.table.now a.room.now) s.ensures.0 s.ensures.1.0 s.ensures.1.1
+    (says_fits a.held a.input.now a.limit (lent_of a.memory.now a.table.now a.room.now) s.result (lent_of s.new.1.1.1.1.0 s.new.1.1.1.1.1.0 a.room.now) (not-false _ c.before.before.before.before.before.before.before.before.before.before.before.if1.false) c.before.before.before.before.before.before.run-code.ensures)
 
 pub run-loaded-spec : {M : Type 1} → statement M
 run-loaded-spec =

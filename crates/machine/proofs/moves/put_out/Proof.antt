@@ -1,4 +1,4 @@
-use Rattle.machine.proofs.Parts.{no_room, an-output}
+use Rattle.machine.proofs.Parts.{no_room, an_output}
 use Rattle.std.proofs.Common.{rules}
 use Rattle.machine.proofs.moves.put_out.Statement.{statement}
 use Rattle.machine.proofs.moves.put_out.Tie as tie
@@ -28,7 +28,7 @@ same_length : tie.Need-same-length
 same_length c = search rules
 
 returns-2 : tie.Need-returns-2
-returns-2 c = let a = c.before.before.before.before.before.before.args in an-output a.from a.room.now c.before.before.before.if1.false c.before.before.value.ensures
+returns-2 c = let a = c.before.before.before.before.before.before.args in an_output a.from a.room.now c.before.before.before.if1.false c.before.before.value.ensures
 
 pub put-out-spec : {M : Type 1} → statement M
 put-out-spec =

@@ -1,10 +1,10 @@
-use Rattle.machine.proofs.Parts.{no-input, an-input}
+use Rattle.machine.proofs.Parts.{no_input, an_input}
 use Rattle.std.proofs.Common.{rules}
 use Rattle.machine.proofs.moves.take_input.Statement.{statement}
 use Rattle.machine.proofs.moves.take_input.Tie as tie
 
 returns : tie.Need-returns
-returns c = let a = c.before.before.before.args in no-input a.from a.input.now a.temps.now a.d c.if1.true
+returns c = let a = c.before.before.before.args in no_input a.from a.input.now a.temps.now a.d c.if1.true
 
 mul-set-temp : tie.Need-overflow-mul-set-temp
 mul-set-temp c = search rules
@@ -28,7 +28,7 @@ same_length : tie.Need-same-length
 same_length c = search rules
 
 returns-2 : tie.Need-returns-2
-returns-2 c = let a = c.before.before.before.before.before.before.before.before.before.before.args in an-input a.from a.input.now a.temps.now a.d _ c.before.before.before.before.before.before.before.if1.false c.before.before.before.before.set-temp.ensures
+returns-2 c = let a = c.before.before.before.before.before.before.before.before.before.before.args in an_input a.from a.input.now a.temps.now a.d _ c.before.before.before.before.before.before.before.if1.false c.before.before.before.before.set-temp.ensures
 
 pub take-input-spec : {M : Type 1} → statement M
 take-input-spec =

@@ -1,13 +1,13 @@
 use Rattle.std.proofs.Common.{◌≡◌, ℕ, ◌<◌, ◌≤◌, List, length, sym, refl, ap, ◌∙◌, subst, arith, rules}
-use Rattle.memory.specs.Memory.{memorySize, tableSize}
+use Rattle.memory.specs.Memory.{memory_size, table_size}
 use Rattle.machine.specs.declared.Turn.{Turn}
 use Rattle.files.specs.declared.Line.{Line}
 use Rattle.stops.specs.declared.Run.{Run}
 use Rattle.stops.specs.Held.{code_of}
-use Rattle.machine.specs.Turn.{Held, held, runHeld, turned, turn_of}
-use Rattle.stops.proofs.Places.{code-length, code_at}
-use Rattle.machine.proofs.Temporaries.{narrow-held}
-use Rattle.machine.proofs.Going.{Course, Going, weightOf, AfterTurn, after_turn, stops-past, stops-limit, starts-off}
+use Rattle.machine.specs.Turn.{Held, held, run_held, turned, turn_of}
+use Rattle.stops.proofs.Places.{code_length, code_at}
+use Rattle.machine.proofs.Temporaries.{narrow_held}
+use Rattle.machine.proofs.Going.{Course, Going, weight_of, AfterTurn, after_turn, stops_past, stops_limit, starts_off}
 use Rattle.machine.proofs.running.run_code.Statement.{statement}
 use Rattle.machine.proofs.running.run_code.Tie as tie
 use Rattle.machine.specs.Running.{lent_of, answered}
@@ -22,7 +22,7 @@ courseOf lines input limit memory table room code starts colors =
       input = input;
       limit = limit;
       room = room;
-      answer = runHeld (code_of code lines) starts colors input limit (lent_of memory table room);
+      answer = run_held (code_of code lines) starts colors input limit (lent_of memory table room);
     }
 
 abbrev invariant-loop : tie.invariant-loop
@@ -31,7 +31,7 @@ invariant-loop lines input limit memory₀ table₀ room₀ code starts colors t
 
 abbrev decreases-loop : tie.decreases-loop
 decreases-loop lines input limit memory₀ table₀ room₀ code starts colors temps₀ now₀ memory table room temps (λ x. x.now) =
-    weightOf (courseOf lines input limit memory₀ table₀ room₀ code starts colors) (λ x. x.now)
+    weight_of (courseOf lines input limit memory₀ table₀ room₀ code starts colors) (λ x. x.now)
 
 -- what the code knows at the head of a turn
 abbrev course : tie.Start invariant-loop decreases-loop → Course
@@ -46,7 +46,7 @@ fits : (s : tie.Start invariant-loop decreases-loop) → s.args.lines ≤ length
 fits s = let long : length s.args.t1 ≡ 2000 = s.well-formed.0.1.0.1 in omega (arith, s.requires.0)
 
 code_is : (s : tie.Start invariant-loop decreases-loop) → length (code_of s.args.t1 s.args.lines) ≡ s.args.lines
-code_is s = code-length s.args.t1 s.args.lines (fits s)
+code_is s = code_length s.args.t1 s.args.lines (fits s)
 
 -- what the turn answers is followed by the definition
 after : (c : tie.After-step invariant-loop decreases-loop) →
@@ -57,20 +57,20 @@ after c =
     let l = c.before.before.before.before.before.before.before.before.before.before in
     let p = l.loop.now in
     let in_code : p.at < length (code_of s.args.t1 s.args.lines) = omega (arith, code_is s, c.before.before.before.before.before.before.before.before.before.if1.false) in
-    let inLimit : p.steps < s.args.limit = c.before.before.before.before.before.before.before.before.if2.false in
+    let in_limit : p.steps < s.args.limit = c.before.before.before.before.before.before.before.before.if2.false in
     subst (AfterTurn (course s) p)
     (ap (turn_of s.args.t3 s.args.t4 s.args.input.now (held_at l) p) (code_at s.args.t1 s.args.lines p.at c.before.before.before.before.before.before.before.before.before.if1.false) ∙ sym c.step.ensures)
-    (after_turn (course s) (held_at l) p l.loop.invariant.0 in_code inLimit)
+    (after_turn (course s) (held_at l) p l.loop.invariant.0 in_code in_limit)
 
 -- what is held after a step has the lengths that it had
 module _ (c : tie.After-step invariant-loop decreases-loop) where
   temps-long : length c.step.new.1.1.1.1.1.0 ≡ 16
   temps-long = c.step.auto.1.1.1.1.1.0 ∙ c.before.before.before.before.before.before.before.before.before.before.loop.invariant.1
 
-  memory-long : length c.step.new.1.1.1.1.1.1.0 ≡ memorySize
+  memory-long : length c.step.new.1.1.1.1.1.1.0 ≡ memory_size
   memory-long = c.step.auto.1.1.1.1.1.1.0 ∙ c.before.before.before.before.before.before.before.before.before.before.loop.invariant.0.memory
 
-  table-long : length c.step.new.1.1.1.1.1.1.1.0 ≡ tableSize
+  table-long : length c.step.new.1.1.1.1.1.1.1.0 ≡ table_size
   table-long = c.step.auto.1.1.1.1.1.1.1.0 ∙ c.before.before.before.before.before.before.before.before.before.before.loop.invariant.0.table
 
   room-long : length c.step.new.1.1.1.1.1.1.1.1.0 ≡ length c.before.before.before.before.before.before.before.before.before.before.before.before.before.before.before.args.room.now
@@ -87,7 +87,7 @@ module _ (c : tie.After-step invariant-loop decreases-loop) where
 
 loop-holds : tie.Need-loop-init invariant-loop decreases-loop
 loop-holds c = let s = c.before.before.before.before in
-    (starts-off (code_of s.args.t1 s.args.lines) s.args.t3 s.args.t4 s.args.input.now s.args.limit s.args.memory.now s.args.table.now s.args.room.now s.requires.2 s.requires.3, refl)
+    (starts_off (code_of s.args.t1 s.args.lines) s.args.t3 s.args.t4 s.args.input.now s.args.limit s.args.memory.now s.args.table.now s.args.room.now s.requires.2 s.requires.3, refl)
 
 recorded-requires : tie.Need-recorded-requires invariant-loop decreases-loop
 recorded-requires c κs = search rules
@@ -105,7 +105,7 @@ returns : tie.Need-returns invariant-loop decreases-loop
 returns c = let s = c.before.before.before.before.before.before.before in
     let l = c.before.before in
     ap (λ (x : Run). answered x (lent_of l.loop.memory l.loop.table l.loop.room)) c.recorded.ensures
-    ∙ stops-past (course s) (held_at l) l.loop.now l.loop.invariant.0 (omega (arith, code_is s, c.before.if1.true))
+    ∙ stops_past (course s) (held_at l) l.loop.now l.loop.invariant.0 (omega (arith, code_is s, c.before.if1.true))
 
 recorded-requires-2 : tie.Need-recorded-requires-2 invariant-loop decreases-loop
 recorded-requires-2 c κs = search rules
@@ -123,7 +123,7 @@ returns-2 : tie.Need-returns-2 invariant-loop decreases-loop
 returns-2 c = let s = c.before.before.before.before.before.before.before.before in
     let l = c.before.before.before in
     ap (λ (x : Run). answered x (lent_of l.loop.memory l.loop.table l.loop.room)) c.recorded2.ensures
-    ∙ stops-limit (course s) (held_at l) l.loop.now l.loop.invariant.0 (omega (arith, code_is s, c.before.before.if1.false)) c.before.if2.true
+    ∙ stops_limit (course s) (held_at l) l.loop.now l.loop.invariant.0 (omega (arith, code_is s, c.before.before.if1.false)) c.before.if2.true
 
 mul-line : tie.Need-overflow-mul-line invariant-loop decreases-loop
 mul-line c = omega arith
@@ -150,7 +150,7 @@ step-requires c κs = let s = c.before.before.before.before.before.before.before
         room = l.loop.invariant.0.outs;
         counts = record { at = omega (arith, s.requires.0, c.before.before.before.before.before.before.before.before.if1.false); steps = omega (arith, c.before.before.before.before.before.before.before.if2.false) };
       },
-      narrow-held s.args.t1 s.args.lines l.loop.now.at (fits s) c.before.before.before.before.before.before.before.before.if1.false s.requires.4 l.loop.invariant.1,
+      narrow_held s.args.t1 s.args.lines l.loop.now.at (fits s) c.before.before.before.before.before.before.before.before.if1.false s.requires.4 l.loop.invariant.1,
     )
 
 enum-known-turn : tie.Need-enum-known-turn invariant-loop decreases-loop

@@ -3,7 +3,7 @@ use Rattle.opcodes.specs.declared.Instr.{Instr}
 use Rattle.machine.specs.Turn.{held, Narrow}
 use Rattle.machine.proofs.Landing.{Here}
 use Rattle.machine.proofs.Parts.{stays, jumps}
-use Rattle.machine.proofs.Instructions.{an-end, a-set, a-place, an-add, a_sub, a-less, a-load8, a-load32, a-put8, a-put32, a-write8, a-write32, a-jump, a-jumpif, an-alloc, a-free, an-in, an-out, a-check8, a-check32, a-checkput8, a-checkput32}
+use Rattle.machine.proofs.Instructions.{an_end, a_set, a_place, an_add, a_sub, a_less, a_load8, a_load32, a_put8, a_put32, a_write8, a_write32, a_jump, a_jumpif, an_alloc, a_free, an_in, an_out, a_check8, a_check32, a_checkput8, a_checkput32}
 use Rattle.machine.proofs.step.step.Statement.{statement}
 use Rattle.machine.proofs.step.step.Tie as tie
 
@@ -161,7 +161,7 @@ same_length c = search rules
 returns : tie.Need-returns
 returns c = let k = c.before.before.before.before.before in
     let w = here k.before.before.before.before.before.before.before.before.before in
-    a-jumpif w k.i13.given.1 (jumps w.p _ c.before.if1.true c.before.before.value3.ensures c.jump2.ensures)
+    a_jumpif w k.i13.given.1 (jumps w.p _ c.before.if1.true c.before.before.value3.ensures c.jump2.ensures)
 
 completed-requires : tie.Need-completed-requires
 completed-requires c κs = search rules
@@ -240,28 +240,28 @@ check32-requires-2 c κs = search rules
 
 returns-2 : tie.Need-returns-2
 returns-2 c =
-    an-end (here c.before.before.before.before.before.before.before.before.before) c.enum_told.given.1
+    an_end (here c.before.before.before.before.before.before.before.before.before) c.enum_told.given.1
 
 same-length-2 : tie.Need-same-length-2
 same-length-2 c = search rules
 
 returns-3 : tie.Need-returns-3
 returns-3 c =
-    a-set (here c.before.before.before.before.before.before.before.before.before.before.before.before.before.before) c.before.before.before.before.before.i.given.1 c.before.before.becomes.ensures.0 c.before.before.becomes.ensures.1
+    a_set (here c.before.before.before.before.before.before.before.before.before.before.before.before.before.before) c.before.before.before.before.before.i.given.1 c.before.before.becomes.ensures.0 c.before.before.becomes.ensures.1
 
 same-length-3 : tie.Need-same-length-3
 same-length-3 c = search rules
 
 returns-4 : tie.Need-returns-4
 returns-4 c =
-    a-place (here c.before.before.before.before.before.before.before.before.before.before.before.before.before.before.before) c.before.before.before.before.before.before.i2.given.1 c.before.before.before.start_of_lem.ensures c.before.before.becomes2.ensures.0 c.before.before.becomes2.ensures.1
+    a_place (here c.before.before.before.before.before.before.before.before.before.before.before.before.before.before.before) c.before.before.before.before.before.before.i2.given.1 c.before.before.before.start_of_lem.ensures c.before.before.becomes2.ensures.0 c.before.before.becomes2.ensures.1
 
 same-length-4 : tie.Need-same-length-4
 same-length-4 c = search rules
 
 returns-5 : tie.Need-returns-5
 returns-5 c =
-    an-add (here c.before.before.before.before.before.before.before.before.before.before.before.before.before.before) c.before.before.before.before.before.i3.given.1 c.before.before.add.ensures.0 c.before.before.add.ensures.1
+    an_add (here c.before.before.before.before.before.before.before.before.before.before.before.before.before.before) c.before.before.before.before.before.i3.given.1 c.before.before.add.ensures.0 c.before.before.add.ensures.1
 
 same-length-5 : tie.Need-same-length-5
 same-length-5 c = search rules
@@ -275,7 +275,7 @@ same-length-6 c = search rules
 
 returns-7 : tie.Need-returns-7
 returns-7 c =
-    a-less (here c.before.before.before.before.before.before.before.before.before.before.before.before.before.before) c.before.before.before.before.before.i5.given.1 c.before.before.less.ensures.0 c.before.before.less.ensures.1
+    a_less (here c.before.before.before.before.before.before.before.before.before.before.before.before.before.before) c.before.before.before.before.before.i5.given.1 c.before.before.less.ensures.0 c.before.before.less.ensures.1
 
 same-length-7 : tie.Need-same-length-7
 same-length-7 c = search rules
@@ -285,7 +285,7 @@ same-length-8 c = search rules
 
 returns-8 : tie.Need-returns-8
 returns-8 c =
-    a-load8 (here c.before.before.before.before.before.before.before.before.before.before.before.before.before.before.before) c.before.before.before.before.before.before.i6.given.1 c.before.before.load8.ensures.0 c.before.before.load8.ensures.1
+    a_load8 (here c.before.before.before.before.before.before.before.before.before.before.before.before.before.before.before) c.before.before.before.before.before.before.i6.given.1 c.before.before.load8.ensures.0 c.before.before.load8.ensures.1
 
 same-length-9 : tie.Need-same-length-9
 same-length-9 c = search rules
@@ -295,7 +295,7 @@ same-length-10 c = search rules
 
 returns-9 : tie.Need-returns-9
 returns-9 c =
-    a-load32 (here c.before.before.before.before.before.before.before.before.before.before.before.before.before.before.before) c.before.before.before.before.before.before.i7.given.1 c.before.before.load32.ensures.0 c.before.before.load32.ensures.1
+    a_load32 (here c.before.before.before.before.before.before.before.before.before.before.before.before.before.before.before) c.before.before.before.before.before.before.i7.given.1 c.before.before.load32.ensures.0 c.before.before.load32.ensures.1
 
 same-length-11 : tie.Need-same-length-11
 same-length-11 c = search rules
@@ -305,7 +305,7 @@ same-length-12 c = search rules
 
 returns-10 : tie.Need-returns-10
 returns-10 c =
-    a-put8 (here c.before.before.before.before.before.before.before.before.before.before.before.before.before.before.before.before) c.before.before.before.before.before.before.before.i8.given.1 c.before.before.before.byte_of.ensures c.before.before.store8.ensures.0 c.before.before.store8.ensures.1
+    a_put8 (here c.before.before.before.before.before.before.before.before.before.before.before.before.before.before.before.before) c.before.before.before.before.before.before.before.i8.given.1 c.before.before.before.byte_of.ensures c.before.before.store8.ensures.0 c.before.before.store8.ensures.1
 
 same-length-13 : tie.Need-same-length-13
 same-length-13 c = search rules
@@ -315,7 +315,7 @@ same-length-14 c = search rules
 
 returns-11 : tie.Need-returns-11
 returns-11 c =
-    a-put32 (here c.before.before.before.before.before.before.before.before.before.before.before.before.before.before.before.before) c.before.before.before.before.before.before.before.i9.given.1 c.before.before.before.byte-of2.ensures c.before.before.store32.ensures.0 c.before.before.store32.ensures.1
+    a_put32 (here c.before.before.before.before.before.before.before.before.before.before.before.before.before.before.before.before) c.before.before.before.before.before.before.before.i9.given.1 c.before.before.before.byte-of2.ensures c.before.before.store32.ensures.0 c.before.before.store32.ensures.1
 
 same-length-15 : tie.Need-same-length-15
 same-length-15 c = search rules
@@ -325,7 +325,7 @@ same-length-16 c = search rules
 
 returns-12 : tie.Need-returns-12
 returns-12 c =
-    a-write8 (here c.before.before.before.before.before.before.before.before.before.before.before.before.before.before.before.before) c.before.before.before.before.before.before.before.i10.given.1 c.before.before.before.value.ensures c.before.before.store82.ensures.0 c.before.before.store82.ensures.1
+    a_write8 (here c.before.before.before.before.before.before.before.before.before.before.before.before.before.before.before.before) c.before.before.before.before.before.before.before.i10.given.1 c.before.before.before.value.ensures c.before.before.store82.ensures.0 c.before.before.store82.ensures.1
 
 same-length-17 : tie.Need-same-length-17
 same-length-17 c = search rules
@@ -335,11 +335,11 @@ same-length-18 c = search rules
 
 returns-13 : tie.Need-returns-13
 returns-13 c =
-    a-write32 (here c.before.before.before.before.before.before.before.before.before.before.before.before.before.before.before.before) c.before.before.before.before.before.before.before.i11.given.1 c.before.before.before.value2.ensures c.before.before.store322.ensures.0 c.before.before.store322.ensures.1
+    a_write32 (here c.before.before.before.before.before.before.before.before.before.before.before.before.before.before.before.before) c.before.before.before.before.before.before.before.i11.given.1 c.before.before.before.value2.ensures c.before.before.store322.ensures.0 c.before.before.store322.ensures.1
 
 returns-14 : tie.Need-returns-14
 returns-14 c =
-    a-jump (here c.before.before.before.before.before.before.before.before.before.before.before) c.before.before.i12.given.1 c.jump.ensures
+    a_jump (here c.before.before.before.before.before.before.before.before.before.before.before) c.before.before.i12.given.1 c.jump.ensures
 
 same-length-19 : tie.Need-same-length-19
 same-length-19 c = search rules
@@ -347,7 +347,7 @@ same-length-19 c = search rules
 returns-15 : tie.Need-returns-15
 returns-15 c = let k = c.before.before.before.before.before in
     let w = here k.before.before.before.before.before.before.before.before.before in
-    a-jumpif w k.i13.given.1 (stays w.p _ c.before.if1.false c.before.before.value3.ensures c.completed.ensures)
+    a_jumpif w k.i13.given.1 (stays w.p _ c.before.if1.false c.before.before.value3.ensures c.completed.ensures)
 
 same-length-20 : tie.Need-same-length-20
 same-length-20 c = search rules
@@ -360,7 +360,7 @@ same-length-22 c = search rules
 
 returns-16 : tie.Need-returns-16
 returns-16 c =
-    an-alloc (here c.before.before.before.before.before.before.before.before.before.before.before.before.before.before.before.before.before.before.before.before) c.before.before.before.before.before.before.before.before.before.before.before.i14.given.1 c.before.before.before.before.before.before.alloc.ensures.0 c.before.before.before.before.before.before.alloc.ensures.1.0 c.before.before.before.before.before.before.alloc.ensures.1.1.0 c.before.before.before.before.before.before.alloc.ensures.1.1.1
+    an_alloc (here c.before.before.before.before.before.before.before.before.before.before.before.before.before.before.before.before.before.before.before.before) c.before.before.before.before.before.before.before.before.before.before.before.i14.given.1 c.before.before.before.before.before.before.alloc.ensures.0 c.before.before.before.before.before.before.alloc.ensures.1.0 c.before.before.before.before.before.before.alloc.ensures.1.1.0 c.before.before.before.before.before.before.alloc.ensures.1.1.1
 
 same-length-23 : tie.Need-same-length-23
 same-length-23 c = search rules
@@ -373,14 +373,14 @@ same-length-25 c = search rules
 
 returns-17 : tie.Need-returns-17
 returns-17 c =
-    a-free (here c.before.before.before.before.before.before.before.before.before.before.before.before.before.before.before.before.before.before) c.before.before.before.before.before.before.before.before.before.i15.given.1 c.before.before.before.before.free.ensures.0 c.before.before.before.before.free.ensures.1.0 c.before.before.before.before.free.ensures.1.1
+    a_free (here c.before.before.before.before.before.before.before.before.before.before.before.before.before.before.before.before.before.before) c.before.before.before.before.before.before.before.before.before.i15.given.1 c.before.before.before.before.free.ensures.0 c.before.before.before.before.free.ensures.1.0 c.before.before.before.before.free.ensures.1.1
 
 same-length-26 : tie.Need-same-length-26
 same-length-26 c = search rules
 
 returns-18 : tie.Need-returns-18
 returns-18 c =
-    an-in (here c.before.before.before.before.before.before.before.before.before.before.before.before.before.before) c.before.before.before.before.before.i16.given.1 c.before.before.take-input.ensures.0 c.before.before.take-input.ensures.1
+    an_in (here c.before.before.before.before.before.before.before.before.before.before.before.before.before.before) c.before.before.before.before.before.i16.given.1 c.before.before.take-input.ensures.0 c.before.before.take-input.ensures.1
 
 same-length-27 : tie.Need-same-length-27
 same-length-27 c = search rules
@@ -390,7 +390,7 @@ same-length-28 c = search rules
 
 returns-19 : tie.Need-returns-19
 returns-19 c =
-    an-out (here c.before.before.before.before.before.before.before.before.before.before.before.before.before.before.before) c.before.before.before.before.before.before.i17.given.1 c.before.before.put-out.ensures.0 c.before.before.put-out.ensures.1
+    an_out (here c.before.before.before.before.before.before.before.before.before.before.before.before.before.before.before) c.before.before.before.before.before.before.i17.given.1 c.before.before.put-out.ensures.0 c.before.before.put-out.ensures.1
 
 same-length-29 : tie.Need-same-length-29
 same-length-29 c = search rules
@@ -400,7 +400,7 @@ same-length-30 c = search rules
 
 returns-20 : tie.Need-returns-20
 returns-20 c =
-    a-check8 (here c.before.before.before.before.before.before.before.before.before.before.before.before.before.before) c.before.before.before.before.before.i18.given.1 c.before.value4.ensures c.check8.ensures
+    a_check8 (here c.before.before.before.before.before.before.before.before.before.before.before.before.before.before) c.before.before.before.before.before.i18.given.1 c.before.value4.ensures c.check8.ensures
 
 same-length-31 : tie.Need-same-length-31
 same-length-31 c = search rules
@@ -410,21 +410,21 @@ same-length-32 c = search rules
 
 returns-21 : tie.Need-returns-21
 returns-21 c =
-    a-check32 (here c.before.before.before.before.before.before.before.before.before.before.before.before.before.before) c.before.before.before.before.before.i19.given.1 c.before.value5.ensures c.check32.ensures
+    a_check32 (here c.before.before.before.before.before.before.before.before.before.before.before.before.before.before) c.before.before.before.before.before.i19.given.1 c.before.value5.ensures c.check32.ensures
 
 same-length-33 : tie.Need-same-length-33
 same-length-33 c = search rules
 
 returns-22 : tie.Need-returns-22
 returns-22 c =
-    a-checkput8 (here c.before.before.before.before.before.before.before.before.before.before.before.before.before) c.before.before.before.before.i20.given.1 c.before.byte-of3.ensures c.check82.ensures
+    a_checkput8 (here c.before.before.before.before.before.before.before.before.before.before.before.before.before) c.before.before.before.before.i20.given.1 c.before.byte-of3.ensures c.check82.ensures
 
 same-length-34 : tie.Need-same-length-34
 same-length-34 c = search rules
 
 returns-23 : tie.Need-returns-23
 returns-23 c =
-    a-checkput32 (here c.before.before.before.before.before.before.before.before.before.before.before.before.before) c.before.before.before.before.i21.given.1 c.before.byte-of4.ensures c.check322.ensures
+    a_checkput32 (here c.before.before.before.before.before.before.before.before.before.before.before.before.before) c.before.before.before.before.i21.given.1 c.before.byte-of4.ensures c.check322.ensures
 
 pub step_spec : {M : Type 1} → statement M
 step_spec =

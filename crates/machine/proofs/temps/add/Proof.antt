@@ -1,4 +1,4 @@
-use Rattle.machine.proofs.Laws.{set_to, of-both}
+use Rattle.machine.proofs.Laws.{set_to, of_both}
 use Rattle.std.proofs.Common.{◌+◌, ◌%◌, ◌^◌, rules}
 use Rattle.machine.proofs.temps.add.Statement.{statement}
 use Rattle.machine.proofs.temps.add.Tie as tie
@@ -22,7 +22,7 @@ returns : tie.Need-returns
 returns c = let a = c.before.before.before.before.before.before.before.before.before.before.args in (
   c.before.before.becomes.ensures.0,
   set_to a.temps.now a.d c.before.before.becomes.ensures.1
-      (of-both (λ x y. (x + y) % 2 ^ 32) c.before.before.before.before.wrapping-add-u32.ensures c.before.before.before.before.before.before.before.value.ensures c.before.before.before.before.before.value2.ensures),
+      (of_both (λ x y. (x + y) % 2 ^ 32) c.before.before.before.before.wrapping-add-u32.ensures c.before.before.before.before.before.before.before.value.ensures c.before.before.before.before.before.value2.ensures),
 )
 
 pub add_spec : {M : Type 1} → statement M

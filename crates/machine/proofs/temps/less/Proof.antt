@@ -1,4 +1,4 @@
-use Rattle.machine.proofs.Laws.{set-less, set-not-less}
+use Rattle.machine.proofs.Laws.{set_less, set_not_less}
 use Rattle.std.proofs.Common.{rules}
 use Rattle.machine.proofs.temps.less.Statement.{statement}
 use Rattle.machine.proofs.temps.less.Tie as tie
@@ -18,7 +18,7 @@ same_length c = search rules
 returns : tie.Need-returns
 returns c = let a = c.before.before.before.before.before.before.before.before.before.before.args in (
   c.before.before.becomes.ensures.0,
-  set-less a.temps.now a.d c.before.before.before.before.if1.true c.before.before.before.before.before.before.before.value.ensures c.before.before.before.before.before.value2.ensures c.before.before.becomes.ensures.1,
+  set_less a.temps.now a.d c.before.before.before.before.if1.true c.before.before.before.before.before.before.before.value.ensures c.before.before.before.before.before.value2.ensures c.before.before.becomes.ensures.1,
 )
 
 becomes-requires-2 : tie.Need-becomes-requires-2
@@ -30,7 +30,7 @@ same-length-2 c = search rules
 returns-2 : tie.Need-returns-2
 returns-2 c = let a = c.before.before.before.before.before.before.before.before.before.before.args in (
   c.before.before.becomes2.ensures.0,
-  set-not-less a.temps.now a.d c.before.before.before.before.if1.false c.before.before.before.before.before.before.before.value.ensures c.before.before.before.before.before.value2.ensures c.before.before.becomes2.ensures.1,
+  set_not_less a.temps.now a.d c.before.before.before.before.if1.false c.before.before.before.before.before.before.before.value.ensures c.before.before.before.before.before.value2.ensures c.before.before.becomes2.ensures.1,
 )
 
 pub less-spec : {M : Type 1} → statement M

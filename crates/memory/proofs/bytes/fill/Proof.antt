@@ -5,7 +5,7 @@ use mathlib.Core.Path.{◌≡◌, refl, ◌∙◌}
 use native.Mathlib.Omega.{arith}
 use lib.ListN.{length, drop, replicate, length-set}
 use borrow.Author.Fill.{fill_more}
-use Rattle.memory.proofs.Parts.{filled-whole}
+use Rattle.memory.proofs.Parts.{filled_whole}
 use Rattle.memory.proofs.bytes.fill.Statement.{statement}
 use Rattle.memory.proofs.bytes.fill.Tie as tie
 
@@ -40,7 +40,7 @@ same_length : tie.Need-same-length invariant-loop decreases-loop
 same_length c = c.before.loop.invariant.1
 
 returns : tie.Need-returns invariant-loop decreases-loop
-returns c = c.before.loop.invariant.2 ∙ filled-whole c.before.before.args.part.now c.before.loop.i
+returns c = c.before.loop.invariant.2 ∙ filled_whole c.before.before.args.part.now c.before.loop.i
     c.before.before.args.value (omega arith)
 
 pub fill_spec : {M : Type 1} → statement M

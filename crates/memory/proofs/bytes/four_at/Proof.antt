@@ -1,7 +1,7 @@
 -- `memory::bytes::four_at` meets its contract. The four bytes are those of `number_at`, one by one.
 use native.Mathlib.Omega.{arith}
 use borrow.Author.Rules.{rules}
-use Rattle.memory.proofs.Parts.{number-4}
+use Rattle.memory.proofs.Parts.{number_4}
 use Rattle.memory.proofs.bytes.four_at.Statement.{statement}
 use Rattle.memory.proofs.bytes.four_at.Tie as tie
 
@@ -58,7 +58,7 @@ add-result-3 c = search rules
 
 returns : tie.Need-returns
 returns c = let s = c.before.before.before.before.before.before.before.before.before.args in omega
-    (arith, number-4 s.memory.now s.at)
+    (arith, number_4 s.memory.now s.at)
 
 pub four-at-spec : {M : Type 1} → statement M
 four-at-spec =
