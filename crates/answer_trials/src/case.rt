@@ -4,7 +4,7 @@ ghost use Rattle.std.specs.Prelude.{◌≤◌};
 use crate::lent::bytes_within;
 use libc::STDIN_FILENO;
 
-#[derive(Drop)]
+#[derive(Clone, Copy)]
 pub struct Case {
     pub kind: u8,
     // What every lent byte holds before the call.

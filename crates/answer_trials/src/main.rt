@@ -1,5 +1,7 @@
 // The trials' other side: reads cases from standard input and writes what each layer answers, as
 // rust/PROTOCOL.md says, until a case of kind 0 or the end of the input.
+#![tactic(auto)]
+
 mod case; // case.rt: a case, and reading it
 mod digest; // digest.rt: the digest of bytes and numbers
 mod layers; // layers.rt: numbers, files, coloring and instrumenting

@@ -1,6 +1,8 @@
 // One instruction in version 2: its check, where it is unsafe, and its copy.
 //
 // Every function answers for all that it can be given: an element past the end of an array counts as 0.
+#![tactic(auto)]
+
 ghost use Rattle.std.specs.Prelude.{◌≡◌, get_or};
 ghost use Rattle.opcodes.specs.View.{view};
 ghost use Rattle.checks.specs.Held.{set_start, first_in, check_for, as_list, check_in};
@@ -10,7 +12,7 @@ use opcodes::Instr;
 use safety::{Nature, nature_of};
 
 // What stands directly before the copy of an instruction.
-#[derive(Drop)]
+#[derive(Clone, Copy)]
 pub enum Before {
     Nothing,
     Check(Instr),

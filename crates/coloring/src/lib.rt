@@ -2,6 +2,8 @@
 //
 // A routine is read and its objects get 01's colors. The crate `safety` says what each instruction is;
 // `labels` finds the classes; `painting` numbers them.
+#![tactic(auto)]
+
 ghost use Rattle.std.specs.Prelude.{◌≡◌};
 ghost use Rattle.files.specs.Reading.{Reading, refusal, read_file};
 ghost use Rattle.files.specs.Held.{held};

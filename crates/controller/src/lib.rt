@@ -1,5 +1,6 @@
 // The controller's one entry point: a routine that nobody has read goes in, is instrumented and run, and
 // what comes out is what the plain rule says.
+#![tactic(auto)]
 
 ghost use Rattle.std.specs.Prelude.{◌≡◌, length};
 ghost use Rattle.stops.specs.Stop.{five_of};

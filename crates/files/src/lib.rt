@@ -3,6 +3,8 @@
 // A file is numbers and nothing else. Reading gives the whole of what the file says, or the first
 // refusal from left to right. The crate `writer` writes files of version 2; what it promises is said
 // here, so that both directions go by one definition of a file.
+#![tactic(auto)]
+
 ghost use Rattle.std.specs.Prelude.{◌≡◌};
 ghost use Rattle.files.specs.Reading.{read_file};
 ghost use Rattle.files.specs.Held.{held};
@@ -18,14 +20,14 @@ mod reading; // reading.rt: whole files
 mod sets; // sets.rt: the sets of a file
 
 // One instruction as an element of an array.
-#[derive(Drop)]
+#[derive(Clone, Copy)]
 pub struct Line {
     pub instr: Instr,
 }
 
 // An object: kind 0 is a global with a size, kind 1 a heap site, whose size is 0 here. A file of
 // version 1 has no colors: the field is 0.
-#[derive(Drop)]
+#[derive(Clone, Copy)]
 pub struct Object {
     pub kind: u8,
     pub size: u16,
@@ -33,28 +35,28 @@ pub struct Object {
 }
 
 // What reading one object answers.
-#[derive(Drop)]
+#[derive(Clone, Copy)]
 pub enum ObjectRead {
     Object(Object, Cursor),
     Refused(Refusal),
 }
 
 // What reading one instruction answers.
-#[derive(Drop)]
+#[derive(Clone, Copy)]
 pub enum InstrRead {
     Instr(Instr, Cursor),
     Refused(Refusal),
 }
 
 // How reading a part of a file ended: where the next part starts, or with a refusal.
-#[derive(Drop)]
+#[derive(Clone, Copy)]
 pub enum Ended {
     Next(Cursor),
     Refused(Refusal),
 }
 
 // How reading a whole file ended.
-#[derive(Drop)]
+#[derive(Clone, Copy)]
 pub enum Outcome {
     Whole,
     Refused(Refusal),
@@ -62,7 +64,7 @@ pub enum Outcome {
 
 // A file as it is held: of each array the first so many elements count, and the others are blank.
 // Of a refused file everything is blank but the refusal.
-#[derive(Drop)]
+#[derive(Clone, Copy)]
 pub struct Loaded {
     pub outcome: Outcome,
     // The objects: how many, and the fields of each.
@@ -80,7 +82,7 @@ pub struct Loaded {
 }
 
 // What writing a program answers (the crate `writer`).
-#[derive(Drop)]
+#[derive(Clone, Copy)]
 pub enum Written {
     // The length of the file.
     Upto(usize),

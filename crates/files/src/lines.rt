@@ -15,7 +15,7 @@ use reader::Reader;
 use table::row_of;
 
 // The instructions of a file, and how reading them ended.
-#[derive(Drop)]
+#[derive(Clone, Copy)]
 pub struct Code {
     pub lines: usize,
     pub code: [Line; 2000],

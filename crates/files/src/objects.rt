@@ -10,7 +10,7 @@ use super::{Ended, Object, ObjectRead};
 use numbers::{Cursor, Read, Refusal};
 
 // The objects of a file, and how reading them ended.
-#[derive(Drop)]
+#[derive(Clone, Copy)]
 pub struct Objects {
     pub count: usize,
     pub kinds: [u8; 400],

@@ -10,14 +10,14 @@ use super::fields::{member_at, ranged, why_read};
 use numbers::{Cursor, Read, Refusal};
 
 // What reading one set answers: where it ends among the members, and the next cursor.
-#[derive(Drop)]
+#[derive(Clone, Copy)]
 pub enum SetRead {
     Set(usize, Cursor),
     Refused(Refusal),
 }
 
 // The sets of a file, and how reading them ended.
-#[derive(Drop)]
+#[derive(Clone, Copy)]
 pub struct Sets {
     pub count: usize,
     pub ends: [u16; 400],

@@ -2,6 +2,8 @@
 //
 // Memory (57,344 bytes) and table (7,168 bytes) are lent to each function. None of them asks that a
 // lent part has its exact length: of another length it is left as it is, which is what they answer.
+#![tactic(auto)]
+
 pub mod freeing;
 pub mod headers;
 pub mod making;
@@ -17,7 +19,7 @@ const HEAP: usize = 28672;
 const END: usize = 57336;
 
 // What ALLOC answers.
-#[derive(Drop)]
+#[derive(Clone, Copy)]
 pub enum Allocation {
     // Memory or table is not of its exact length.
     WrongLength,
@@ -30,7 +32,7 @@ pub enum Allocation {
 }
 
 // What FREE answers.
-#[derive(Drop)]
+#[derive(Clone, Copy)]
 pub enum Release {
     // Memory or table is not of its exact length.
     WrongLength,
@@ -42,7 +44,7 @@ pub enum Release {
 }
 
 // What a walk over all headers finds on its way: a header, 0 where there is none.
-#[derive(Drop)]
+#[derive(Clone, Copy)]
 enum Search {
     Unsound,
     Found(usize),

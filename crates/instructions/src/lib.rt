@@ -2,6 +2,8 @@
 // reader, the writer and everybody who looks at an instruction's operands.
 //
 // Both functions answer for every number and every instruction that they can be given.
+#![tactic(auto)]
+
 ghost use Rattle.std.specs.Prelude.{◌≡◌, [], ◌∷◌, ◌%◌};
 ghost use Rattle.instructions.specs.Making.{made};
 ghost use Rattle.opcodes.specs.Table.{parts_of};

@@ -1,5 +1,7 @@
 // Instruments the routine on standard input: its version 2 file goes to standard output. Of a routine
 // that is refused nothing goes there, and standard error says `refused NUMBER PLACE`.
+#![tactic(auto)]
+
 use instrumenter::Instrumented;
 use libc::{STDERR_FILENO, STDIN_FILENO, STDOUT_FILENO};
 use numbers::Refusal;

@@ -1,5 +1,7 @@
 // Instrumenting: version 2 of a routine. The same instructions in order, each unsafe one directly
 // preceded by its check with its class's color; a jump goes to the check where there is one.
+#![tactic(auto)]
+
 mod passes; // passes.rt: where the instructions go, and the code of version 2
 
 ghost use Rattle.std.specs.Prelude.{◌≡◌, ◌≤◌, length};
@@ -14,7 +16,7 @@ use passes::{guarded_code, new_places};
 use writer::{Written, write_program};
 
 // What instrumenting answers.
-#[derive(Drop)]
+#[derive(Clone, Copy)]
 pub enum Instrumented {
     // The length of the version 2 file, which stands at the front of the room.
     Written(usize),

@@ -9,7 +9,7 @@ use files::Line;
 use opcodes::Instr;
 
 // The code of version 2, of which the first so many lines count.
-#[derive(Drop)]
+#[derive(Clone, Copy)]
 pub struct Code {
     pub lines: usize,
     pub code: [Line; 2000],

@@ -2,6 +2,8 @@
 //
 // From address 8 stand the safe globals, then a guard of 8, then each unsafe global with a guard of 8
 // behind it. A safe object is one of color 0.
+#![tactic(auto)]
+
 ghost use Rattle.std.specs.Prelude.{◌≡◌, ◌+◌, ◌*◌, ◌≤◌, ◌<◌, eqb};
 ghost use Rattle.opcodes.specs.View.{extent};
 ghost use Rattle.files.specs.Held.{tabulate};
@@ -9,7 +11,7 @@ ghost use Rattle.layout.specs.Layout.{safe_space, unsafe_space, total, unsafe_fr
 ghost use Rattle.layout.specs.Arrays.{piece_at, pieces_in, layout_of, next_place, counted};
 
 // The start of each object, 0 for those that are not there, and where the last guard ends.
-#[derive(Drop)]
+#[derive(Clone, Copy)]
 pub struct Layout {
     pub starts: [u32; 400],
     pub end: u32,

@@ -1,4 +1,6 @@
 // The machine: runs any version 2 file on lent memory, table and output room.
+#![tactic(auto)]
+
 ghost use Rattle.std.specs.Prelude.{◌≡◌};
 ghost use Rattle.machine.specs.Running.{run_file, answered, lent_of};
 
@@ -17,7 +19,7 @@ mod lent; // lent.rt: memory, table and heap
 // How far a run has come: the counts of numbers taken and out, the next instruction, and the steps. What
 // changes least stands first: in a turn's answer a reason to stop shares the bytes of the first field,
 // and the number there is put together from its bytes in each turn.
-#[derive(Drop)]
+#[derive(Clone, Copy)]
 struct Progress {
     taken: usize,
     out: usize,
@@ -26,7 +28,7 @@ struct Progress {
 }
 
 // What one turn answers.
-#[derive(Drop)]
+#[derive(Clone, Copy)]
 enum Turn {
     Stop(Reason),
     On(Progress),

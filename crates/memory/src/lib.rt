@@ -2,6 +2,8 @@
 //
 // Memory (57,344 bytes) and table (7,168 bytes) are lent to each function. None asks that a lent part has
 // its exact length: what lies outside is not read and not written.
+#![tactic(auto)]
+
 pub mod bytes;
 pub mod colors;
 pub mod lengths;
@@ -12,7 +14,7 @@ const MEMORY: usize = 57344;
 const TABLE: usize = 7168;
 
 // What a load answers.
-#[derive(Drop)]
+#[derive(Clone, Copy)]
 pub enum Load {
     Value(u32),
     Outside,

@@ -2,25 +2,27 @@
 //
 // A read answers the value with the next cursor, or a refusal with its number and place; what is
 // written is the one shortest spelling. Nothing here asks anything of its caller.
+#![tactic(auto)]
+
 ghost use Rattle.std.specs.Prelude.{◌≡◌, ◌+◌, ◌/◌, ◌%◌, ◌<◌};
 ghost use Rattle.numbers.specs.declared.Read.TheVariants.{Refused};
 ghost use Rattle.numbers.specs.Number.{read_number, width, written_at, room_after};
 
 // Where the next number of a file starts.
-#[derive(Drop)]
+#[derive(Clone, Copy)]
 pub struct Cursor {
     pub at: usize,
 }
 
 // Why a file was not taken: one of 01's refusal numbers, and the place that goes with it.
-#[derive(Drop)]
+#[derive(Clone, Copy)]
 pub struct Refusal {
     pub number: u8,
     pub place: usize,
 }
 
 // What reading one number answers.
-#[derive(Drop)]
+#[derive(Clone, Copy)]
 pub enum Read {
     // The value, and the cursor behind it.
     Number(u32, Cursor),
@@ -69,7 +71,7 @@ pub fn read_number(file: &[u8], from: Cursor) -> Read
 }
 
 // What writing one number answers.
-#[derive(Drop)]
+#[derive(Clone, Copy)]
 pub enum Written {
     // The place behind the last byte written.
     Upto(usize),

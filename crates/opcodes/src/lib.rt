@@ -2,12 +2,14 @@
 // operands, for the reader, the writer and everybody who takes an instruction apart.
 //
 // Every function answers for every number that it can be given.
+#![tactic(auto)]
+
 pub mod versions; // versions.rt: which opcodes and operands a version has
 pub mod ranges; // ranges.rt: the numbers that an operand may be
 pub mod extent; // extent.rt: a size rounded up to eight
 
 // What an operand of an instruction names, and so its range; `None` where there is no operand.
-#[derive(Drop)]
+#[derive(Clone, Copy)]
 pub enum Operand {
     None,
     Temporary,
@@ -21,14 +23,14 @@ pub enum Operand {
 }
 
 // The group of an opcode, which says in what versions it stands.
-#[derive(Drop)]
+#[derive(Clone, Copy)]
 pub enum Group {
     Plain,
     Check,
 }
 
 // An opcode's group, and its operands in their order in the file.
-#[derive(Drop)]
+#[derive(Clone, Copy)]
 pub struct Row {
     pub group: Group,
     pub first: Operand,
@@ -38,7 +40,7 @@ pub struct Row {
 }
 
 // An instruction with its operands as data. In version 2 a WRITE has no set: the field is 0.
-#[derive(Drop)]
+#[derive(Clone, Copy)]
 pub enum Instr {
     End,
     Set(u8, u32),
@@ -65,7 +67,7 @@ pub enum Instr {
 }
 
 // An instruction's opcode and its operands in the order of the file, 0 where there is none.
-#[derive(Drop)]
+#[derive(Clone, Copy)]
 pub struct Parts {
     pub op: u32,
     pub x: u32,
@@ -75,7 +77,7 @@ pub struct Parts {
 }
 
 // What the operands of an instruction may name, beside the objects' kinds.
-#[derive(Drop)]
+#[derive(Clone, Copy)]
 pub struct Scope {
     pub version: u8,
     pub sets: usize,

@@ -1,1 +1,2 @@
 // The plain rule and demand 3.
+#![tactic(auto)]

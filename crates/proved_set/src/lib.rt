@@ -1,1 +1,2 @@
 // Examples 1 to 12 of the scope, as one table that the checker computes: see specs/Examples.antt.
+#![tactic(auto)]

@@ -3,12 +3,14 @@
 // Each function over it takes it apart and leaves the work to a function on the bytes and the place;
 // `read_at`, which every reader of files calls, has plain parameters. Nothing here asks anything of its
 // caller.
+#![tactic(auto)]
+
 ghost use Rattle.std.specs.Prelude.{◌≡◌};
 ghost use Rattle.numbers.specs.Number.{read_number};
 
 use numbers::{Cursor, Read, read_number};
 
-#[derive(Drop)]
+#[derive(Clone, Copy)]
 pub struct Reader<'a> {
     pub file: &'a [u8],
     // Any place, also one past the file's end: there is then nothing left, and a number read is refused.

@@ -2,14 +2,14 @@
 use libc::STDERR_FILENO;
 
 // What an argument is.
-#[derive(Drop)]
+#[derive(Clone, Copy)]
 enum Argument {
     Number(u32),
     NoNumber,
 }
 
 // What reading all arguments answers.
-#[derive(Drop)]
+#[derive(Clone, Copy)]
 pub enum Inputs {
     Count(usize),
     // One is no number, or there are too many, and standard error says so.

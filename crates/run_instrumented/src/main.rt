@@ -3,6 +3,8 @@
 // through the controller, which instruments it; any other is run as version 2. Prints the run's five
 // numbers with single blanks and a newline, and then the numbers put out, one to a line; of a refusal its
 // number and place.
+#![tactic(auto)]
+
 mod inputs; // inputs.rt: the arguments as numbers
 mod printing; // printing.rt: the lines on standard output
 

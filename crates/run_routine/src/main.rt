@@ -1,6 +1,8 @@
 // Instruments the routine on standard input and runs it with no input, an output room of 1,000 and the
 // limit 1,000,000. Prints the run's five numbers with single blanks and a newline; of a refusal its
 // number and place.
+#![tactic(auto)]
+
 use libc::{STDIN_FILENO, STDOUT_FILENO};
 
 // One byte more than the longest file, so that a longer one is seen to be too long.

@@ -2,6 +2,8 @@
 //
 // What an instruction is, is decided by its opcode number, its operands and the sizes of the globals; classes
 // and colors come later and elsewhere.
+#![tactic(auto)]
+
 ghost use Rattle.std.specs.Prelude.{◌≡◌, [], ◌∷◌};
 ghost use Rattle.opcodes.specs.Table.{make};
 ghost use Rattle.opcodes.specs.View.{view};
@@ -11,7 +13,7 @@ use instructions::parts_of;
 use opcodes::Instr;
 
 // What an instruction is: a store, and of which kind, or something else.
-#[derive(Drop)]
+#[derive(Clone, Copy)]
 pub enum Nature {
     // A store that cannot leave its global's extent.
     Safe,

@@ -2,6 +2,8 @@
 // or site), size, class (its lowest object, or the word safe), color, and start (the address of a global).
 // A site has no size and no start, and `-` stands for them. Of a file that is refused, the number and place
 // of the refusal. A file whose first byte is 2 is read as version 2, any other as version 1.
+#![tactic(auto)]
+
 use coloring::read_colored;
 use files::{Loaded, Outcome};
 use layout::lay_out;
@@ -15,7 +17,7 @@ const LONGEST: usize = 32769;
 const GLOBALS_END: u32 = 28672;
 
 // What is shown of one object.
-#[derive(Drop)]
+#[derive(Clone, Copy)]
 struct Row {
     number: usize,
     kind: u8,

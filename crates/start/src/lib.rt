@@ -1,4 +1,6 @@
 // The start of a run: memory and table are cleared and laid out.
+#![tactic(auto)]
+
 ghost use Rattle.std.specs.Prelude.{◌≡◌};
 ghost use Rattle.start.specs.Held.{paint_one, laid_table, laid_start};
 
@@ -6,7 +8,7 @@ use opcodes::extent::extent_of;
 
 // What laying out answers: whether the globals end at or below 28,672, and where each object starts; 0 for
 // those that are not there.
-#[derive(Drop)]
+#[derive(Clone, Copy)]
 pub struct Laid {
     pub fits: bool,
     pub starts: [u32; 400],

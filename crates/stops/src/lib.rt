@@ -1,4 +1,6 @@
 // Why a run stopped, or why there was none; its record, and the five numbers that come back.
+#![tactic(auto)]
+
 ghost use Rattle.std.specs.Prelude.{◌≡◌};
 ghost use Rattle.stops.specs.Stop.{number_of, place_for, refused_run, five_of};
 
@@ -7,7 +9,7 @@ use numbers::Refusal;
 pub mod place; // place.rt: the place of a stop, and its record
 
 // Why a run stopped, or why there was none.
-#[derive(Drop)]
+#[derive(Clone, Copy)]
 pub enum Reason {
     Finished,
     PastEnd,
@@ -24,7 +26,7 @@ pub enum Reason {
 
 // A run's record: why and where it stopped, how many instructions were completed, how many numbers
 // were put out, and how many were taken.
-#[derive(Drop)]
+#[derive(Clone, Copy)]
 pub struct Run {
     pub reason: Reason,
     pub place: usize,

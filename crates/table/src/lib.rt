@@ -1,6 +1,8 @@
 // The table of the opcodes: the group and the operands of each. The reader and the writer go by the same rows.
 //
 // Every function answers for every number that it can be given.
+#![tactic(auto)]
+
 ghost use Rattle.std.specs.Prelude.{◌≡◌};
 ghost use Rattle.opcodes.specs.Table.{row_of};
 ghost use Rattle.opcodes.specs.Ranges.{has_opcode};

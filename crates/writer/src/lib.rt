@@ -2,6 +2,8 @@
 //
 // A first pass measures the program and judges every field of it; a second one writes it where it fits.
 // So a refusal changes no byte, and what is written is read back as exactly that program.
+#![tactic(auto)]
+
 ghost use Rattle.std.specs.Prelude.{◌≡◌};
 ghost use Rattle.files.specs.Held.{written_in, room_with};
 

@@ -15,7 +15,7 @@ use opcodes::{Instr, Operand, Scope};
 use table::{has_opcode, row_of};
 
 // How many bytes a part of a program takes; `Bad` if no file says it.
-#[derive(Drop)]
+#[derive(Clone, Copy)]
 pub enum Length {
     Good(usize),
     Bad,
