@@ -7,11 +7,10 @@ use native.Mathlib.Omega.{arith}
 use lib.ListN.{length, take, drop, length-drop, length-append, take-append-drop}
 use lib.Seq.{sets, sets-eq, drop-append-le, drop-append-add, drop-append_seam, take-append_seam, take_at, length-take-le}
 use borrow.Author.Tests.{le-leb, lt-leb}
-use Rattle.numbers.specs.Number.{spell, width, read_groups, read_number}
+use Rattle.numbers.specs.Number.{spell, width, read_number}
 use Rattle.numbers.specs.Number.{fits_at, written_at, room_after}
 use Rattle.numbers.specs.declared.Cursor.{Cursor}
 use Rattle.numbers.specs.declared.Refusal.{Refusal}
-use Rattle.numbers.specs.declared.Read.{Read}
 use Rattle.numbers.specs.declared.Read.TheVariants.{Number, Refused}
 use Rattle.numbers.specs.declared.Written.TheVariants.{Upto, TooSmall}
 use Rattle.numbers.proofs.Reading.{start}
