@@ -3,9 +3,4 @@
 -- A reader holds a file and a place. It is opened at 0 (`open`), put behind what was read (`after`), and asked for
 -- the next number (`number`), for any file and any place. What it answers is what the function on the bytes and
 -- the place answers, so `read_at` promises what `numbers::read_number` does, and a crate above may call the one
--- for the other.
---
--- The borrow checker covers no function over a struct that holds a slice: each is a walk of its MIR by hand, in
--- the folder of its name. What they share, what a reader owns and how it is taken apart and put together, is in
--- `Held`. `number_from`, which does the work, is covered and needs no proof by hand.
-pub mod Held
+-- for the other. Each function is proved with no file of its own.
