@@ -15,7 +15,7 @@ use Rattle.opcodes.specs.View.{extent}
 use Rattle.heap.specs.declared.Search.{Search}
 use Rattle.heap.specs.declared.Allocation.{Allocation}
 use Rattle.memory.specs.Memory.{memory_size, table_size, exact, number_at}
-use Rattle.heap.specs.Heap.{Block, Made, Alloc, is_free, end_slot, heap_start, block_at, sound, Walk, unsound, blocks, with_block, walk_from, walk, take_block, first_fit, alloc_in, alloc}
+use Rattle.heap.specs.Heap.{Block, Alloc, is_free, end_slot, heap_start, block_at, sound, Walk, unsound, blocks, with_block, walk_from, walk, take_block, first_fit, alloc_in, alloc}
 use Rattle.heap.specs.Lent.{after_alloc, allocated}
 use Rattle.heap.specs.Search.{first_of, found_in, fit_in, Fitting}
 use Rattle.heap.proofs.Blocks.{Same, same_as}

@@ -5,7 +5,7 @@ use Rattle.std.specs.Prelude.{ℕ, List, [], ◌∷◌, true, false, length, rep
 use Rattle.heap.specs.declared.Allocation.{Allocation}
 use Rattle.heap.specs.declared.Release.{Release}
 use Rattle.memory.specs.Memory.{memory_size, exact}
-use Rattle.heap.specs.Heap.{Made, Freed, Alloc, Free, alloc, free, paint_made, paint_freed, empty_heap}
+use Rattle.heap.specs.Heap.{Alloc, Free, alloc, free, paint_made, paint_freed, empty_heap}
 
 -- ---- the answers, by 01's numbers and values; 0 where the run goes on
 
