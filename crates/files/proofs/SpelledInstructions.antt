@@ -20,8 +20,8 @@ use Rattle.opcodes.specs.declared.Parts.{Parts}
 use Rattle.opcodes.specs.Table.{row_of, operands_of, make, parts_in, numbers_of, parts_of, named, operands_in, Each}
 use Rattle.opcodes.specs.Ranges.{Scope, present, allowed, has_opcode}
 use Rattle.files.specs.Reading.{judged}
-use Rattle.files.specs.Writing.{spell_if, spell_operands, spell_parts, spell_instr, good_operand, good_operands, good_parts, good_instr, both}
-use Rattle.files.proofs.SpelledNumbers.{Stands, stands_nil, stands_append, stands_split, Judged, judged_of_read, read_of_judged, Optional, optional_of_read, read_of_optional}
+use Rattle.files.specs.Writing.{spell_if, spell_operands, spell_parts, spell_instr, good_operand, good_operands, good_parts, good_instr}
+use Rattle.files.proofs.SpelledNumbers.{Stands, stands_nil, stands_append, stands_split, Judged, judged_of_read, read_of_judged, optional_of_read, read_of_optional}
 use Rattle.files.proofs.OneInstr.{an_opcode, an_operand}
 use Rattle.files.proofs.Tests.{both_true, both_left, both_right}
 use Rattle.files.specs.Parsing.{cursor, on_number, operand_at, operands_at, read_instr}

@@ -23,7 +23,7 @@ use Rattle.files.specs.Inside.{objects_after, objects_behind, objects_of, sets_a
 use Rattle.files.proofs.Following.{read_by_parts}
 use Rattle.files.proofs.Filled.{take-filled}
 use Rattle.files.proofs.Parts.{objects_read, objects_refused, sets_read, sets_refused, code_read, code_refused}
-use Rattle.files.specs.Parsing.{got, refused, after_version, after_object_count, after_objects, after_set_count, after_sets, after_code_count, after_code}
+use Rattle.files.specs.Parsing.{got, after_version, after_object_count, after_objects, after_set_count, after_sets, after_code_count, after_code}
 
 -- ---- the definition, part by part
 
