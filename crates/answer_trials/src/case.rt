@@ -1,8 +1,8 @@
 // A case: its header, and reading it. All words are four bytes, low byte first.
-ghost use Rattle.std.specs.Prelude.{◌≤◌};
+ghost use Rattle.std.specs.Prelude.{◌≤◌, length};
 
 use crate::lent::bytes_within;
-use libc::STDIN_FILENO;
+use std::io::Read;
 
 #[derive(Clone, Copy)]
 pub struct Case {
@@ -93,13 +93,30 @@ pub(crate) fn case_in(header: &[u8]) -> Case {
     }
 }
 
-// Fills the front of a buffer with so many bytes of standard input, or says that the input ended before.
-pub(crate) fn read_front(buffer: &mut [u8], count: u32) -> bool {
+// Reads until the buffer is full, the input ends or a read fails, and returns how many bytes that were.
+fn read_full(input: &mut impl Read, buffer: &mut [u8]) -> usize
+    ensures { result ≤ length buffer.new }
+{
+    let mut done = 0;
+    while done < buffer.len() {
+        let Ok(n) = input.read(&mut buffer[done..]) else {
+            return done;
+        };
+        if n == 0 {
+            return done;
+        }
+        done += n;
+    }
+    done
+}
+
+// Fills the front of a buffer with so many bytes of the input, or says that the input ended before.
+pub(crate) fn read_front(input: &mut impl Read, buffer: &mut [u8], count: u32) -> bool {
     let wanted = bytes_within(count, buffer);
     if wanted == 0 {
         return true;
     }
-    io::read_full(STDIN_FILENO, &mut buffer[..wanted]) == wanted
+    read_full(input, &mut buffer[..wanted]) == wanted
 }
 
 // The words of some bytes, as many as there is room for.
@@ -117,9 +134,9 @@ fn bytes_of(inputs: u32) -> u32 {
 }
 
 // Reads so many inputs, or says that the input ended before them.
-pub(crate) fn read_inputs(inputs: u32, numbers: &mut [u32]) -> bool {
-    let mut bytes = io::buffer();
-    let is_whole = read_front(&mut bytes, bytes_of(inputs));
+pub(crate) fn read_inputs(input: &mut impl Read, inputs: u32, numbers: &mut [u32]) -> bool {
+    let mut bytes = [0u8; 4096];
+    let is_whole = read_front(input, &mut bytes, bytes_of(inputs));
     take_words(numbers, &bytes);
     is_whole
 }

@@ -33,7 +33,7 @@ fn write_number_in(room: &mut [u8], cursor: u32, n: u32) -> [u32; 8] {
     match written {
         numbers::Written::Upto(next) => {
             let behind = word(next);
-            let length = std::num::wrapping_sub_u32(behind, cursor);
+            let length = behind.wrapping_sub(cursor);
             [0, 0, length, behind, 0, digest, 0, 0]
         }
         numbers::Written::TooSmall => too_small(digest),

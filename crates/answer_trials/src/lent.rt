@@ -1,7 +1,7 @@
 // What is lent: arrays as large as any case asks for, filled with the case's byte, and the part of an array that
 // a case asks for.
 ghost use Rattle.std.specs.Prelude.{◌≡◌, length};
-ghost use Rattle.io.specs.Counts.{IsPrefixLen};
+ghost use Rattle.answer_trials.specs.Counts.{IsPrefixLen};
 
 pub(crate) fn filled_room(fill: u8) -> [u8; 40960]
     ensures { 40960 ≡ length result }

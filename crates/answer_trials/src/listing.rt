@@ -69,7 +69,7 @@ fn sets<'a>(held: u32, ends: &'a [u16; 400], members: &'a [u16; 16384], count: u
     let mut s = 0;
     while s < 400 && s < count {
         let to = ends[s];
-        h = joined(h, wide(std::num::wrapping_sub_u16(to, from)));
+        h = joined(h, wide(to.wrapping_sub(from)));
         h = set(h, members, from, to);
         from = to;
         s += 1;

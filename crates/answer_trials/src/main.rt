@@ -15,8 +15,8 @@ use layers::{
     write_version_2,
 };
 use lent::{bytes_within, filled_numbers, filled_room, numbers_within};
-use libc::STDOUT_FILENO;
 use runs::run_case;
+use std::io::{Read, Write};
 
 // What a layer answers to a case.
 fn answer_to(case: Case, file: &[u8], input: &[u32]) -> [u32; 8] {
@@ -34,31 +34,31 @@ fn answer_to(case: Case, file: &[u8], input: &[u32]) -> [u32; 8] {
 }
 
 // Writes an answer and says whether it was taken.
-fn write_answer(words: [u32; 8]) -> bool {
+fn write_answer(output: &mut impl Write, words: [u32; 8]) -> bool {
     let mut bytes = [0u8; 32];
     put_words(&mut bytes, words);
-    io::write_all(STDOUT_FILENO, &bytes)
+    output.write_all(&bytes).is_ok()
 }
 
 // Reads what stands behind a header, and answers the case. A case that is cut off is not answered.
-fn answer_case(case: Case) -> bool {
+fn answer_case(input: &mut impl Read, output: &mut impl Write, case: Case) -> bool {
     let mut file = filled_room(0);
-    if !read_front(&mut file, case.file) {
+    if !read_front(input, &mut file, case.file) {
         return false;
     }
-    let mut input = filled_numbers(0);
-    if !read_inputs(case.inputs, &mut input) {
+    let mut numbers = filled_numbers(0);
+    if !read_inputs(input, case.inputs, &mut numbers) {
         return false;
     }
     let length = bytes_within(case.file, &file);
-    let count = numbers_within(case.inputs, &input);
-    write_answer(answer_to(case, &file[..length], &input[..count]))
+    let count = numbers_within(case.inputs, &numbers);
+    write_answer(output, answer_to(case, &file[..length], &numbers[..count]))
 }
 
 // One case, and whether another may follow.
-fn answer_next() -> bool {
+fn answer_next(input: &mut impl Read, output: &mut impl Write) -> bool {
     let mut header = [0u8; 32];
-    if !read_front(&mut header, 32) {
+    if !read_front(input, &mut header, 32) {
         return false;
     }
     let case = case_in(&header);
@@ -66,14 +66,16 @@ fn answer_next() -> bool {
     if kind == 0 || 9 < kind {
         return false;
     }
-    answer_case(case)
+    answer_case(input, output, case)
 }
 
 // A proved loop has to end, and nothing says that the cases do: the turns are counted down from a number
 // that no trial uses up.
-fn main() {
+fn main(rt: HostRuntime) {
+    let mut input = rt.stdin();
+    let mut output = rt.stdout();
     let mut turns = u64::MAX;
-    while turns > 0 && answer_next() {
+    while turns > 0 && answer_next(&mut input, &mut output) {
         turns -= 1;
     }
 }

@@ -76,9 +76,8 @@ pub fn control(
     instrument_and_run(file, input, memory, table, room, limit)
 }
 
-// The same for a host in C or Rust: the five numbers go to `numbers`.
-#[unsafe(no_mangle)]
-pub extern "C" fn toltjebrim_control(
+// The same for a host in C or Rust, as the library controller_c hands it on: the five numbers go to `numbers`.
+pub fn toltjebrim_control(
     file: &[u8],
     input: &[u32],
     memory: &mut [u8],

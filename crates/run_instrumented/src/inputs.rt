@@ -1,11 +1,15 @@
 // The program's arguments as input numbers, in decimal, 0 to 4,294,967,295.
-use libc::STDERR_FILENO;
+use std::env::FillError;
+use std::io;
+use std::rt::Env;
 
 // What an argument is.
 #[derive(Clone, Copy)]
 enum Argument {
     Number(u32),
     NoNumber,
+    // There are no more arguments.
+    Missing,
 }
 
 // What reading all arguments answers.
@@ -51,43 +55,41 @@ fn number_in(text: &[u8]) -> Argument {
     Argument::Number(value as u32)
 }
 
-// The argument with this number. One that is too long for the text is empty here, and so no number.
-fn number_given(i: usize) -> Argument {
+// The argument with this number. One that is too long for the text is no number.
+fn number_given(rt: &impl Env, i: usize) -> Argument {
     let mut text = [0u8; MOST_DIGITS];
-    let length = os::arg(i, &mut text);
-    number_in(&text[..length])
+    match rt.arg(i, &mut text) {
+        Ok(length) => number_in(&text[..length]),
+        Err(FillError::TooLong) => Argument::NoNumber,
+        Err(FillError::NotPresent) => Argument::Missing,
+    }
 }
 
-fn complain(i: usize) {
-    io::write_all(STDERR_FILENO, b"input ");
-    io::print_decimal(STDERR_FILENO, i as u64);
-    io::write_all(
-        STDERR_FILENO,
-        b" is no decimal number from 0 to 4294967295\n",
-    );
+fn complain(rt: &impl Eprint, i: usize) -> io::Result<()> {
+    eprintln!(rt; "input {i} is no decimal number from 0 to 4294967295")
 }
 
 // Puts the arguments behind the program's name into the room and answers how many there are; or says
 // what is wrong.
-pub(crate) fn read_inputs(room: &mut [u32]) -> Inputs {
-    let count = os::arg_count();
+pub(crate) fn read_inputs(rt: &(impl Env + Eprint), room: &mut [u32]) -> io::Result<Inputs> {
     let most = room.len();
     let mut i = 1;
-    while i < count {
-        if most < i {
-            io::write_all(STDERR_FILENO, b"too many inputs\n");
-            return Inputs::Mistaken;
-        }
-        match number_given(i) {
+    while i <= most {
+        match number_given(rt, i) {
             Argument::Number(n) => {
                 room[i - 1] = n;
             }
             Argument::NoNumber => {
-                complain(i);
-                return Inputs::Mistaken;
+                complain(rt, i)?;
+                return Ok(Inputs::Mistaken);
             }
+            Argument::Missing => return Ok(Inputs::Count(i - 1)),
         }
         i += 1;
     }
-    Inputs::Count(i - 1)
+    if let Argument::Missing = number_given(rt, i) {
+        return Ok(Inputs::Count(most));
+    }
+    eprintln!(rt; "too many inputs")?;
+    Ok(Inputs::Mistaken)
 }

@@ -8,9 +8,13 @@
 mod inputs; // inputs.rt: the arguments as numbers
 mod printing; // printing.rt: the lines on standard output
 
+ghost use Rattle.std.specs.Prelude.{◌≤◌, IfOk, length};
+
 use inputs::{Inputs, read_inputs};
-use libc::{STDERR_FILENO, STDIN_FILENO};
 use printing::{print_line, print_outputs};
+use std::io;
+use std::io::Read;
+use std::rt::Env;
 use stops::Run;
 
 // One byte more than the longest file, so that a longer one is seen to be too long.
@@ -22,12 +26,6 @@ const MOST_WORDS: usize = 1003;
 // The largest room.
 const MOST_ROOM: usize = 65536;
 
-// Whether standard input cannot be read, as where it is a folder. At the end of a file it can.
-fn is_unreadable() -> bool {
-    let mut next = [0u8; 1];
-    libc::read(STDIN_FILENO, &mut next) < 0
-}
-
 fn run_file(version: u32, limit: u32, file: &[u8], input: &[u32], room: &mut [u32]) -> Run {
     let mut memory = [0u8; 57344];
     let mut table = [0u8; 7168];
@@ -37,50 +35,78 @@ fn run_file(version: u32, limit: u32, file: &[u8], input: &[u32], room: &mut [u3
     machine::run_file(file, input, &mut memory, &mut table, room, limit)
 }
 
-fn run_and_print(version: u32, limit: u32, file: &[u8], input: &[u32], room: &mut [u32]) {
+fn run_and_print(
+    rt: &impl Print,
+    version: u32,
+    limit: u32,
+    file: &[u8],
+    input: &[u32],
+    room: &mut [u32],
+) -> io::Result<()> {
     let run = run_file(version, limit, file, input, room);
     let five = stops::numbers_of(run);
-    print_line(five[0], five[1], five[2], five[3], five[4]);
-    print_outputs(room, run.out);
+    print_line(rt, five[0], five[1], five[2], five[3], five[4])?;
+    print_outputs(rt, room, run.out)
 }
 
 // Runs with a room of this many numbers.
-fn run_in_room(version: u32, limit: u32, size: u32, file: &[u8], input: &[u32]) {
+fn run_in_room(
+    rt: &(impl Print + Eprint),
+    version: u32,
+    limit: u32,
+    size: u32,
+    file: &[u8],
+    input: &[u32],
+) -> io::Result<()> {
     let mut room = [0u32; MOST_ROOM];
     let count = size as usize;
     if count <= MOST_ROOM {
-        run_and_print(version, limit, file, input, &mut room[..count]);
+        run_and_print(rt, version, limit, file, input, &mut room[..count])
     } else {
-        io::write_all(STDERR_FILENO, b"the room is larger than 65536\n");
+        eprintln!(rt; "the room is larger than 65536")
     }
 }
 
 // Runs with these words: version, limit, room, and the inputs.
-fn run_on(file: &[u8], words: &[u32]) {
+fn run_on(rt: &(impl Print + Eprint), file: &[u8], words: &[u32]) -> io::Result<()> {
     if words.len() < 3 {
-        io::write_all(STDERR_FILENO, b"version, limit and room are missing\n");
-        return;
+        return eprintln!(rt; "version, limit and room are missing");
     }
-    run_in_room(words[0], words[1], words[2], file, &words[3..]);
+    run_in_room(rt, words[0], words[1], words[2], file, &words[3..])
 }
 
-fn run_with(file: &[u8], room: &mut [u32]) {
-    let answer = read_inputs(room);
+fn run_with(rt: &(impl Print + Eprint + Env), file: &[u8], room: &mut [u32]) -> io::Result<()> {
+    let answer = read_inputs(rt, room)?;
     let Inputs::Count(count) = answer else {
-        return;
+        return Ok(());
     };
     if count <= room.len() {
-        run_on(file, &room[..count]);
+        return run_on(rt, file, &room[..count]);
     }
+    Ok(())
 }
 
-fn main() {
-    let mut file = [0u8; LONGEST];
-    let length = io::read_full(STDIN_FILENO, &mut file);
-    if is_unreadable() {
-        os::fail(b"standard input");
-        return;
+// Reads until the buffer is full or the input ends, and returns how many bytes that were.
+fn read_full(input: &mut impl Read, buffer: &mut [u8]) -> io::Result<usize>
+    ensures { IfOk result (λ n. n ≤ length buffer.new) }
+{
+    let mut done = 0;
+    while done < buffer.len() {
+        let n = input.read(&mut buffer[done..])?;
+        if n == 0 {
+            break;
+        }
+        done += n;
     }
+    Ok(done)
+}
+
+fn main(rt: HostRuntime) -> io::Result<()> {
+    let mut file = [0u8; LONGEST];
     let mut words = [0u32; MOST_WORDS];
-    run_with(&file[..length], &mut words);
+    match read_full(&mut rt.stdin(), &mut file) {
+        Ok(length) => run_with(&rt, &file[..length], &mut words),
+        // As where standard input is a folder.
+        Err(e) => eprintln!(rt; "standard input: {e}"),
+    }
 }

@@ -3,7 +3,10 @@
 // number and place.
 #![tactic(auto)]
 
-use libc::{STDIN_FILENO, STDOUT_FILENO};
+ghost use Rattle.std.specs.Prelude.{◌≤◌, IfOk, length};
+
+use std::io;
+use std::io::Read;
 
 // One byte more than the longest file, so that a longer one is seen to be too long.
 const LONGEST: usize = 16385;
@@ -13,48 +16,52 @@ fn is_refusal(number: u64) -> bool {
     1 <= number && number <= 11
 }
 
-fn print_blank() {
-    io::write_all(STDOUT_FILENO, b" ");
-}
-
 // Of a refusal the number and the place, of a run all five.
-fn print_line(number: u64, place: u64, steps: u64, out: u64, taken: u64) {
-    io::print_decimal(STDOUT_FILENO, number);
-    print_blank();
-    io::print_decimal(STDOUT_FILENO, place);
+fn print_line(
+    rt: &impl Print,
+    number: u64,
+    place: u64,
+    steps: u64,
+    out: u64,
+    taken: u64,
+) -> io::Result<()> {
+    print!(rt; "{number} {place}")?;
     if !is_refusal(number) {
-        print_blank();
-        io::print_decimal(STDOUT_FILENO, steps);
-        print_blank();
-        io::print_decimal(STDOUT_FILENO, out);
-        print_blank();
-        io::print_decimal(STDOUT_FILENO, taken);
+        print!(rt; " {steps} {out} {taken}")?;
     }
-    io::write_all(STDOUT_FILENO, b"\n");
+    println!(rt;)
 }
 
-fn run_routine(file: &[u8]) {
+fn run_routine(rt: &impl Print, file: &[u8]) -> io::Result<()> {
     let none = [0u32; 0];
     let mut memory = [0u8; 57344];
     let mut table = [0u8; 7168];
     let mut room = [0u32; 1000];
     let run = controller::control(file, &none, &mut memory, &mut table, &mut room, 1000000);
     let five = stops::numbers_of(run);
-    print_line(five[0], five[1], five[2], five[3], five[4]);
+    print_line(rt, five[0], five[1], five[2], five[3], five[4])
 }
 
-// Whether standard input cannot be read, as where it is a folder. At the end of a file it can.
-fn is_unreadable() -> bool {
-    let mut next = [0u8; 1];
-    libc::read(STDIN_FILENO, &mut next) < 0
-}
-
-fn main() {
-    let mut file = [0u8; LONGEST];
-    let length = io::read_full(STDIN_FILENO, &mut file);
-    if is_unreadable() {
-        os::fail(b"standard input");
-        return;
+// Reads until the buffer is full or the input ends, and returns how many bytes that were.
+fn read_full(input: &mut impl Read, buffer: &mut [u8]) -> io::Result<usize>
+    ensures { IfOk result (λ n. n ≤ length buffer.new) }
+{
+    let mut done = 0;
+    while done < buffer.len() {
+        let n = input.read(&mut buffer[done..])?;
+        if n == 0 {
+            break;
+        }
+        done += n;
     }
-    run_routine(&file[..length]);
+    Ok(done)
+}
+
+fn main(rt: HostRuntime) -> io::Result<()> {
+    let mut file = [0u8; LONGEST];
+    match read_full(&mut rt.stdin(), &mut file) {
+        Ok(length) => run_routine(&rt, &file[..length]),
+        // As where standard input is a folder.
+        Err(e) => eprintln!(rt; "standard input: {e}"),
+    }
 }

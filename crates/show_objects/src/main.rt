@@ -4,11 +4,14 @@
 // of the refusal. A file whose first byte is 2 is read as version 2, any other as version 1.
 #![tactic(auto)]
 
+ghost use Rattle.std.specs.Prelude.{◌≤◌, IfOk, length};
+
 use coloring::read_colored;
 use files::{Loaded, Outcome};
 use layout::lay_out;
-use libc::{STDIN_FILENO, STDOUT_FILENO};
 use numbers::Refusal;
+use std::io;
+use std::io::Read;
 
 // One byte more than the longest file, so that a longer one is seen to be too long.
 const LONGEST: usize = 32769;
@@ -27,56 +30,40 @@ struct Row {
     start: u32,
 }
 
-fn print(text: &[u8]) {
-    io::write_all(STDOUT_FILENO, text);
+fn print_refusal(rt: &impl Print, q: Refusal) -> io::Result<()> {
+    println!(rt; "{} {}", q.number, q.place)
 }
 
-fn print_number(n: u64) {
-    io::print_decimal(STDOUT_FILENO, n);
-}
-
-fn print_refusal(q: Refusal) {
-    print_number(q.number as u64);
-    print(b" ");
-    print_number(q.place as u64);
-    print(b"\n");
-}
-
-fn print_size(kind: u8, size: u16) {
+fn print_size(rt: &impl Print, kind: u8, size: u16) -> io::Result<()> {
     if kind == 0 {
-        print(b" global ");
-        print_number(size as u64);
+        print!(rt; " global {size}")
     } else {
-        print(b" site -");
+        print!(rt; " site -")
     }
 }
 
-fn print_class(class: usize, color: u8) {
+fn print_class(rt: &impl Print, class: usize, color: u8) -> io::Result<()> {
     if color == 0 {
-        print(b" safe ");
+        print!(rt; " safe {color}")
     } else {
-        print(b" ");
-        print_number(class as u64);
-        print(b" ");
+        print!(rt; " {class} {color}")
     }
-    print_number(color as u64);
 }
 
-fn print_start(kind: u8, start: u32) {
+fn print_start(rt: &impl Print, kind: u8, start: u32) -> io::Result<()> {
     if kind == 0 {
-        print(b" ");
-        print_number(start as u64);
+        print!(rt; " {start}")
     } else {
-        print(b" -");
+        print!(rt; " -")
     }
 }
 
-fn print_row(row: Row) {
-    print_number(row.number as u64);
-    print_size(row.kind, row.size);
-    print_class(row.class, row.color);
-    print_start(row.kind, row.start);
-    print(b"\n");
+fn print_row(rt: &impl Print, row: Row) -> io::Result<()> {
+    print!(rt; "{}", row.number)?;
+    print_size(rt, row.kind, row.size)?;
+    print_class(rt, row.class, row.color)?;
+    print_start(rt, row.kind, row.start)?;
+    println!(rt;)
 }
 
 // The lowest object of a color: classes and colors go together.
@@ -91,32 +78,38 @@ fn lowest(colors: &[u8; 400], color: u8) -> usize {
     g
 }
 
-fn print_objects(routine: Loaded) {
+fn print_objects(rt: &impl Print, routine: Loaded) -> io::Result<()> {
     let kinds = routine.kinds;
     let sizes = routine.sizes;
     let colors = routine.colors;
     let layout = lay_out(&kinds, &sizes, &colors, routine.objects);
     if GLOBALS_END < layout.end {
-        print_refusal(Refusal {
-            number: 9,
-            place: 0,
-        });
-        return;
+        return print_refusal(
+            rt,
+            Refusal {
+                number: 9,
+                place: 0,
+            },
+        );
     }
     let starts = layout.starts;
     let mut g = 0;
     while g < 400 && g < routine.objects {
         let color = colors[g];
-        print_row(Row {
-            number: g,
-            kind: kinds[g],
-            size: sizes[g],
-            class: lowest(&colors, color),
-            color,
-            start: starts[g],
-        });
+        print_row(
+            rt,
+            Row {
+                number: g,
+                kind: kinds[g],
+                size: sizes[g],
+                class: lowest(&colors, color),
+                color,
+                start: starts[g],
+            },
+        )?;
         g += 1;
     }
+    Ok(())
 }
 
 fn is_version_2(file: &[u8]) -> bool {
@@ -134,27 +127,35 @@ fn read_either(file: &[u8]) -> Loaded {
     read_colored(file)
 }
 
-fn show_objects(file: &[u8]) {
+fn show_objects(rt: &impl Print, file: &[u8]) -> io::Result<()> {
     let routine = read_either(file);
     let outcome = routine.outcome;
     match outcome {
-        Outcome::Whole => print_objects(routine),
-        Outcome::Refused(q) => print_refusal(q),
+        Outcome::Whole => print_objects(rt, routine),
+        Outcome::Refused(q) => print_refusal(rt, q),
     }
 }
 
-// Whether standard input cannot be read, as where it is a folder. At the end of a file it can.
-fn is_unreadable() -> bool {
-    let mut next = [0u8; 1];
-    libc::read(STDIN_FILENO, &mut next) < 0
+// Reads until the buffer is full or the input ends, and returns how many bytes that were.
+fn read_full(input: &mut impl Read, buffer: &mut [u8]) -> io::Result<usize>
+    ensures { IfOk result (λ n. n ≤ length buffer.new) }
+{
+    let mut done = 0;
+    while done < buffer.len() {
+        let n = input.read(&mut buffer[done..])?;
+        if n == 0 {
+            break;
+        }
+        done += n;
+    }
+    Ok(done)
 }
 
-fn main() {
+fn main(rt: HostRuntime) -> io::Result<()> {
     let mut file = [0u8; LONGEST];
-    let length = io::read_full(STDIN_FILENO, &mut file);
-    if is_unreadable() {
-        os::fail(b"standard input");
-        return;
+    match read_full(&mut rt.stdin(), &mut file) {
+        Ok(length) => show_objects(&rt, &file[..length]),
+        // As where standard input is a folder.
+        Err(e) => eprintln!(rt; "standard input: {e}"),
     }
-    show_objects(&file[..length]);
 }
