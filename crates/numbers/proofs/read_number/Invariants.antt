@@ -7,6 +7,3 @@ use Rattle.numbers.proofs.read_number.Given as goal
 
 abbrev pub invariant-loop-group : goal.invariant-loop-group
 invariant-loop-group l = (l.group ≤ 5) × Reading l.file l.first l.at l.value l.group
-
-abbrev pub decreases-loop-group : goal.decreases-loop-group
-decreases-loop-group l = 5 - l.group

@@ -1,9 +1,5 @@
-use Prim.Native.Nat.{◌-◌}
 use Rattle.files.proofs.MemberLoop.{Taking}
 use Rattle.files.proofs.sets.read_members.Given as goal
 
 abbrev pub invariant-loop-i : goal.invariant-loop-i
 invariant-loop-i l = Taking l.objects l.count l.file l.initial.next.at l.initial.members l.start l.members l.next.at l.low l.place l.i
-
-abbrev pub decreases-loop-i : goal.decreases-loop-i
-decreases-loop-i l = l.count - l.i
