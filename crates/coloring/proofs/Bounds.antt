@@ -82,6 +82,7 @@ module _ (p : Program) (good : Good 1 p) where
   nature_bound (check aim c) n = tt
 
   named_bound : (n : Nature) (code : List Instr) → every (good_instr (scope_of 1 p)) code ≡ true → Named (sizes p) n code → Bound n
+  named_bound n [] g h = elim h [ ]
   named_bound n (i ∷ is) g (here q) = rw q at (nature_bound (view i) (names p i (every_head (good_instr (scope_of 1 p)) i is g)))
   named_bound n (i ∷ is) g (there k) = named_bound n is (every_tail (good_instr (scope_of 1 p)) i is g) k
 

@@ -39,6 +39,10 @@ pub in_place : {t : List ℕ} {ts : List (List ℕ)} → In t ts → (k : ℕ) �
 in_place head = (0, omega arith, refl)
 in_place (tail h) = let r = in_place h in (suc r.0, omega (arith, r.1), r.2)
 
+only_one : {t u : List ℕ} → In t (u ∷ []) → t ≡ u
+only_one head = refl
+only_one (tail h) = elim h [ ]
+
 pub place_in : (ts : List (List ℕ)) (k : ℕ) → k < length ts → In (get_or ts k []) ts
 place_in [] k h = absurd (omega arith)
 place_in (t ∷ ts) zero h = head
@@ -107,11 +111,16 @@ module _ (p : Program) where
   from_later (listed h) = listed (there h)
 
   from_here : (i : Instr) (code : List Instr) (t : List ℕ) (n : Nature) → nature_of sizes (view i) ≡ n → In t (sets_by p n) → From (i ∷ code) t
-  from_here i code t (Own g) e head = own (here e)
-  from_here i code t (Listed s) e head = listed (here e)
+  from_here i code t Safe e h = elim h [ ]
+  from_here i code t (Own g) e h = rw (only_one h) (own (here e))
+  from_here i code t (Listed s) e h = rw (only_one h) (listed (here e))
+  from_here i code t (Jump _) e h = elim h [ ]
+  from_here i code t Check e h = elim h [ ]
+  from_here i code t Other e h = elim h [ ]
 
   pub set_from : (code : List Instr) {t : List ℕ} → In t (sets_in p code) → From code t
   unfolding sets_in
+  set_from [] {t} h = elim h [ ]
   set_from (i ∷ code) {t} h =
       ⊎_elim
       (λ k. from_here i code t (nature_of sizes (view i)) refl (rw (unsafe_by (view i)) at k))
@@ -264,6 +273,7 @@ module _ (size : ℕ → ℕ) where
 
   pub uses_named : (code : List Instr) (u : List Bool) (t : ℕ) → length u ≡ 400 → t < 400 → Named size (Listed t) code → get_or (uses_done size code u) t false ≡ true
   unfolding uses_done
+  uses_named [] u t w b h = elim h [ ]
   uses_named (i ∷ is) u t w b (here e) =
       uses_kept is (use_marked (nature_of size (view i)) u) t
       (rw e (rw (use_inside u t b) (get_or-set_same u t true false (omega (arith, w)))))

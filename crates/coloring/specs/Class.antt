@@ -1,6 +1,6 @@
 -- 01, "Safe stores, classes, colors": unsafe objects and their classes, without colors. All here is
 -- said of the list of the unsafe instructions' sets.
-use Rattle.std.specs.Prelude.{ℕ, ◌+◌, ◌<◌, ◌≡◌, List, [], ◌∷◌, ◌++◌, Bool, true, false, length, get_or, eqb}
+use Rattle.std.specs.Prelude.{ℕ, ◌<◌, ◌≡◌, List, [], ◌∷◌, ◌++◌, Bool, true, false, length, get_or, eqb}
 
 -- whether a list of object numbers holds x
 unfoldable pub holds : List ℕ → (x : ℕ) → Bool
