@@ -23,7 +23,7 @@ use Rattle.unique.specs.Once.{checks_copy_of, checks_check_before}
 use Rattle.unique.specs.Once.{coloring_read_colored}
 use Rattle.unique.specs.Once.{layout_lay_out}
 use Rattle.unique.specs.Once.{memory_fill, memory_load8, memory_load32, memory_number_at, memory_store8, memory_store32, memory_check8, memory_check32, memory_paint, memory_are_exact}
-use Rattle.unique.specs.Once.{heap_start_lem, heap_alloc, heap_free}
+use Rattle.unique.specs.Once.{heap_start, heap_alloc, heap_free}
 use Rattle.unique.specs.Once.{instrumenter_instrument}
 use Rattle.unique.specs.Once.{start_lay}
 use Rattle.unique.specs.Once.{stops_refused, stops_numbers_of, stops_place_of, stops_recorded}
@@ -197,7 +197,7 @@ memory_are_exact_once memory table = once
 
 -- ---- heap
 
-pub heap_start_once : heap_start_lem
+pub heap_start_once : heap_start
 heap_start_once memory = once
 
 pub heap_alloc_once : heap_alloc

@@ -190,8 +190,8 @@ memory_are_exact = (memory table : List ℕ) → Once (λ r. r ≡ exact memory 
 
 -- ---- heap
 
-abbrev pub heap_start_lem : Type 0
-heap_start_lem = (memory : List ℕ) → Once (λ memory'. memory' ≡ started memory)
+abbrev pub heap_start : Type 0
+heap_start = (memory : List ℕ) → Once (λ memory'. memory' ≡ started memory)
 
 abbrev pub heap_alloc : Type 0
 heap_alloc =
