@@ -118,6 +118,10 @@ pub field_length : (b : Bool) (n : ℕ) → length (spell_if b n) ≤ 5
 field_length true n = width_most n
 field_length false n = omega arith
 
+-- a field that was measured
+pub few : (b on : Bool) (n : ℕ) {r : Length} {k : ℕ} → r ≡ measured b (length (spell_if on n)) → r ≡ Length.Good k → k ≤ 5
+few b on n p e = let f = was_good b (length (spell_if on n)) p e in omega (arith, f.long, field_length on n)
+
 pub object_length : (version : ℕ) (o : Object) → length (spell_object version o) ≤ 15
 object_length version o =
     let a = width_most o.kind in

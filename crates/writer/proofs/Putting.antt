@@ -1,7 +1,7 @@
 -- Bytes put into a room from a place on, one run after the other.
 use mathlib.Core.Path.{◌≡◌, refl, sym, ap, ◌∙◌}
 use mathlib.Core.List.{List, [], ◌∷◌, ◌++◌, append-nil}
-use Prim.Native.Nat.{ℕ, ◌+◌, ◌-◌, ◌≤◌}
+use Prim.Native.Nat.{ℕ, ◌+◌, ◌≤◌}
 use native.Mathlib.Omega.{arith}
 use lib.ListN.{length, drop, length-append}
 use lib.Seq.{sets, length-sets, sets-eq}
@@ -12,6 +12,10 @@ use Rattle.files.proofs.Filled.{sets_append}
 pub record Put (before : List ℕ) (at : ℕ) (bytes after : List ℕ) (place : ℕ) : Type 0 where
   pub room : after ≡ sets before at bytes
   pub ends : place ≡ at + length bytes
+
+pub has_put : {before : List ℕ} {at : ℕ} {bytes after : List ℕ} {place : ℕ} → place ≡ at + length bytes → after ≡ sets before at bytes
+    → Put before at bytes after place
+has_put e r = record { room = r; ends = e }
 
 pub as_long : {before : List ℕ} {at : ℕ} {bytes after : List ℕ} {place : ℕ} → Put before at bytes after place → length after ≡ length before
 as_long {before} {at} {bytes} p = ap length p.room ∙ length-sets before at bytes
