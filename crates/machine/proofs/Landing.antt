@@ -7,7 +7,7 @@
 -- own numbers. Where an instruction has a test, the code and the definition make the same one: the law
 -- is said for any Bool, both cases at once, and then cited at the test; for ALLOC and FREE the same
 -- goes for what the heap answers. Only OUT changes the room.
-use Rattle.std.proofs.Common.{◌≡◌, ℕ, ◌+◌, ◌-◌, ◌<◌, Bool, true, false, eqb, ltb, leb, List, [], ◌∷◌, ◌++◌, length, get_or, take, drop, set, sym, refl, ap, ◌∙◌, add-one, arith, length-append, take-append-drop, length-take-le, take-suc-set, drop-set-lt, ltb-false, ltb-true, eq-eqb}
+use Rattle.std.proofs.Common.{◌≡◌, ℕ, ◌+◌, ◌<◌, Bool, true, false, eqb, ltb, leb, List, [], ◌∷◌, ◌++◌, length, get_or, take, drop, set, sym, refl, ap, ◌∙◌, add-one, arith, length-append, take-append-drop, length-take-le, take-suc-set, drop-set-lt, ltb-false, ltb-true, eq-eqb}
 use lib.Seq.{set_out}
 use Rattle.opcodes.specs.declared.Instr.{Instr}
 use Rattle.opcodes.specs.View.{View, Act, act, store, Aim}

@@ -4,9 +4,8 @@
 -- from them is the definition's: the pieces and their layout, the instructions, the first table
 -- (`Starting`), and the rule (`Agreeing`). `runs_program` puts them together: a run of what is held is
 -- the run of the program, or refusal 9. `run_file` adds the refusals before it.
-use Rattle.std.proofs.Common.{◌≡◌, ℕ, zero, suc, ◌+◌, ◌*◌, ◌<◌, ◌≤◌, Bool, true, false, ltb, List, map, length, get_or, sym, refl, ap, ◌∙◌, subst, not-suc-le-zero, arith, ltb-false, ltb-true, eq-eqb, le-leb, leb-true}
+use Rattle.std.proofs.Common.{◌≡◌, ℕ, ◌+◌, ◌*◌, ◌≤◌, Bool, true, false, ltb, List, map, length, get_or, sym, refl, ap, ◌∙◌, subst, not-suc-le-zero, arith, ltb-false, ltb-true, eq-eqb, leb-true}
 use lib.ListN.{get_or-eq_default}
-use borrow.Author.Tests.{lt-leb}
 use Rattle.numbers.specs.declared.Refusal.{Refusal}
 use Rattle.opcodes.specs.declared.Instr.{Instr}
 use Rattle.files.specs.declared.Object.{Object}
@@ -20,7 +19,6 @@ use Rattle.opcodes.proofs.Bounds.{within_bounds}
 use Rattle.files.proofs.Tabulated.{length-tabulate, get_d_tabulate_zero}
 use Rattle.files.proofs.Filled.{get_d_filled, get_d_filled_map, lines_filled}
 use Rattle.files.proofs.RoundTrip.{Good, good_read, whole_not_refused}
-use Rattle.layout.specs.declared.Layout.{Layout}
 use Rattle.layout.specs.Layout.{Piece, pieces_of, start_of, end_of, fits}
 use Rattle.layout.specs.Arrays.{pieces_in, layout_of}
 use Rattle.memory.specs.Memory.{memory_size, table_size}
