@@ -31,6 +31,10 @@ renamed_same from to v e = rw (eq-eqb v from e, renamed)
 pub renamed_other : (from to v : ℕ) → (v ≡ from → ⊥) → renamed from to v ≡ v
 renamed_other from to v e = rw (ne_eqb v from e, renamed)
 
+pub relabel_none : (from to : ℕ) (l : List ℕ) → relabelled from to 0 l ≡ l
+unfolding relabelled
+relabel_none from to l = refl
+
 pub relabel_turn : (from to i : ℕ) (l : List ℕ)
     → set (relabelled from to i l) i (renamed from to (get_or (relabelled from to i l) i 0)) ≡ relabelled from to (suc i) l
 unfolding relabelled

@@ -18,6 +18,7 @@ use safety::{Nature, nature_of};
 pub const NONE: u16 = 400;
 
 // An object of an unsafe instruction's set has a class.
+#[tactic(auto, using(crate::proofs::Turns::touched_old, crate::proofs::Turns::touched_new))]
 fn touch(labels: &mut [u16; 400], x: u16)
     requires { x < 400 }
     ensures { labels.new ≡ touched labels.old x }
@@ -34,6 +35,7 @@ fn rename(label: u16, from: u16, to: u16) -> u16
     if label == from { to } else { label }
 }
 
+#[tactic(auto, using(crate::proofs::Turns::relabel_none, crate::proofs::Turns::relabel_turn))]
 fn relabel(labels: &mut [u16; 400], from: u16, to: u16)
     ensures { labels.new ≡ relabelled from to 400 labels.old }
 {
@@ -43,6 +45,7 @@ fn relabel(labels: &mut [u16; 400], from: u16, to: u16)
 }
 
 // The classes of two objects become one, with the lower label.
+#[tactic(auto, using(crate::proofs::Turns::united_left, crate::proofs::Turns::united_right, crate::proofs::Turns::united_same))]
 fn unite(labels: &mut [u16; 400], a: u16, b: u16)
     requires { (a < 400) × (b < 400) }
     ensures { labels.new ≡ united labels.old a b }
@@ -61,6 +64,7 @@ fn unite(labels: &mut [u16; 400], a: u16, b: u16)
 }
 
 // The members from `from` up to `to` are of one class.
+#[tactic(auto, using(crate::proofs::Turns::span_turn, crate::proofs::Turns::span_done))]
 fn unite_set(labels: &mut [u16; 400], members: &[u16; 16384], from: usize, to: usize)
     requires { (to ≤ 16384) × ((i : Prim.Native.Nat.ℕ) → get_or members.now i 0 < 400) }
     ensures { labels.new ≡ span_joined (to - from) members.now (get_or members.now from 0) from labels.old }
@@ -79,6 +83,7 @@ fn unite_set(labels: &mut [u16; 400], members: &[u16; 16384], from: usize, to: u
 }
 
 // The sets that an unsafe instruction names; `ends` says where each ends among the members.
+#[tactic(auto, using(crate::proofs::Turns::sets_turn, crate::proofs::Turns::sets_done_lem))]
 pub(super) fn unite_sets(
     labels: &mut [u16; 400],
     used: &[bool; 400],
@@ -124,6 +129,7 @@ fn mark(i: Instr, sizes: &[u16; 400], labels: &mut [u16; 400], used: &mut [bool;
 }
 
 // What all instructions say.
+#[tactic(auto, using(crate::proofs::Turns::owns_turn, crate::proofs::Turns::owns_done_lem, crate::proofs::Turns::uses_turn, crate::proofs::Turns::uses_done_lem))]
 pub(super) fn mark_all(
     code: [Line; 2000],
     lines: usize,

@@ -20,6 +20,7 @@ mod labels;
 mod painting;
 
 // There are colors for 254 classes. Of a refused routine everything is blank but the refusal.
+#[tactic(auto, unfolding(files::specs::Held::ends_from, files::specs::Held::joined, files::specs::Held::filled))]
 fn too_many() -> Loaded
     ensures { result ≡ held (Reading.refused (refusal 8 0)) }
 {
@@ -48,6 +49,7 @@ fn too_many() -> Loaded
 }
 
 // A routine with the colors of its objects.
+#[tactic(auto, using(crate::proofs::Turns::labels_from, crate::proofs::Turns::painting_many, crate::proofs::Turns::painting_few))]
 fn paint(routine: Loaded) -> Loaded
     requires { InRange routine }
     ensures { result ≡ painting routine }
@@ -72,6 +74,7 @@ fn paint(routine: Loaded) -> Loaded
 
 // Reads bytes as a routine and gives its objects their colors. The answer has 0 as the color of a safe
 // object, and 2, 3, .. for the classes in the order of their lowest objects.
+#[tactic(auto, using(crate::proofs::Answer::read_in_range, crate::proofs::Answer::read_painted, crate::proofs::Answer::read_refused))]
 pub fn read_colored(file: &[u8]) -> Loaded
     ensures { result ≡ held (colored (read_file 1 file.now)) }
 {

@@ -10,6 +10,7 @@ fn leader(label: u16, x: usize) -> u16
 }
 
 // How many classes the first `objects` objects have.
+#[tactic(auto, using(crate::proofs::Turns::lead_most, crate::proofs::Turns::leaders_most, crate::proofs::Turns::leaders_turn), unfolding(crate::specs::Labels::leaders))]
 pub(super) fn count_classes(labels: &[u16; 400], objects: usize) -> u16
     requires { objects ≤ 400 }
     ensures { result ≡ leaders labels.now objects }
@@ -37,6 +38,7 @@ fn color_of(colors: &[u8; 400], label: u16, x: usize, next: u16) -> u8
 }
 
 // The colors of the first `objects` objects, class after class in the order of the lowest objects.
+#[tactic(auto, using(crate::proofs::Turns::lead_most, crate::proofs::Turns::leaders_most, crate::proofs::Turns::leaders_turn, crate::proofs::Turns::leaders_rise, crate::proofs::Turns::numbered_turn, crate::proofs::Turns::numbered_done), unfolding(crate::specs::Labels::leaders))]
 pub(super) fn colors_of(labels: &[u16; 400], objects: usize) -> [u8; 400]
     requires { (objects ≤ 400) × (leaders labels.now objects ≤ 254) }
     ensures { result ≡ numbered_from objects labels.now 0 2 (replicate 400 0) }
