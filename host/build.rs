@@ -1,4 +1,4 @@
-//! Finds the static library: where TOLTJEBRIM_ARCHIVE says, or else where `rt staticlib controller` writes it.
+//! Finds the static library: where TOLTJEBRIM_ARCHIVE says, or else where `host/archive.sh` puts it.
 use std::env;
 use std::path::PathBuf;
 use std::process::exit;
@@ -21,7 +21,7 @@ fn main() {
     };
     println!("cargo:rerun-if-changed={}", archive.display());
     let archive = archive.canonicalize().unwrap_or_else(|_| {
-        fail(&format!("there is no library at {}: run `rt staticlib controller` in the repository, or say in TOLTJEBRIM_ARCHIVE where libcontroller.a is", archive.display()))
+        fail(&format!("there is no library at {}: run `host/archive.sh` in the repository, or say in TOLTJEBRIM_ARCHIVE where libcontroller.a is", archive.display()))
     });
     let name = archive.file_name().and_then(|name| name.to_str()).unwrap_or_default();
     let name = name.strip_prefix("lib").and_then(|name| name.strip_suffix(".a")).unwrap_or_else(|| {

@@ -1,7 +1,7 @@
 /* The controller's one entry point, for hosts in C (from C99) and C++. docs/HOSTS.md has it at length, with a
  * first program; docs/NUMBERS.md says what each number means and what to do about it.
  *
- * Link target/staticlib/libcontroller.a, made by `rt staticlib controller` for x86-64 Linux. It needs memcpy and
+ * Link target/staticlib/libcontroller.a, made by `host/archive.sh` for x86-64 Linux. It needs memcpy and
  * memset, has no data of its own and calls nothing else, so any number of threads may be inside it at once, each with
  * buffers of its own. A call takes at most TOLTJEBRIM_STACK bytes of stack.
  */

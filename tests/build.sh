@@ -11,36 +11,39 @@ trap 'chmod -R u+rwX "$work"; rm -rf "$work"' EXIT
 chmod 755 "$work"
 ./wit build || flunk 'the programs are not built'
 
-rt=$(command -v rt)
-RATTLE_HOME=${RATTLE_HOME:-$(dirname "$(dirname "$(readlink -f "$rt")")")}
-built=$PWD/target/bin calls=$work/calls
-export RATTLE_HOME built calls
+built=$PWD/crates calls=$work/calls
+export built calls
 mkdir "$work/bin"
 cat >"$work/bin/rt" <<'END'
 #!/bin/sh
-# As rt: a program with a right stamp is unchanged, whether or not it is there; otherwise it is linked, then
-# run, and gets its stamp if the run is right.
-[ "$1" = check ] || { echo stand-in; exit; }
-echo "$2" >>"$calls"
-stamp=$(find crates -name '*.rt' -exec sha256sum {} + | sort | sha256sum)
-if [ "$(cat "target/stamp/$2" 2>/dev/null)" = "$stamp" ]; then
-    echo "rt: $2 proved (unchanged since it was last proved)"
-    exit
+# As rt: a program whose stamp is right, for what it is made from and for itself, is unchanged; otherwise it is
+# proved, linked and stamped. Then it is run. Where something fails, there is no stamp.
+[ "$1" = run ] || { echo stand-in; exit; }
+name=$(basename "$PWD")
+echo "$name" >>"$calls"
+sources() { (cd .. && find . -name '*.rt' -exec sha256sum {} + | sort | sha256sum); }
+stamp() { sources && sha256sum <"out/$name"; }
+if [ -x "out/$name" ] && [ "$(cat "out/$name.stamp" 2>/dev/null)" = "$(stamp)" ]; then
+    echo "rt: nothing has changed since the last proved build, by out/$name.stamp, so nothing is checked now"
+    exec "out/$name"
 fi
-mkdir -p target/bin target/stamp
-rm -f "target/stamp/$2"
+mkdir -p out
+rm -f "out/$name.stamp"
+echo "crate $name: modules loaded=1 checked=1"
 case $mode in
 slow) sleep 2 ;;
 endless) sleep 300 ;;
-edited) echo '// edited' >>crates/numbers/src/lib.rt ;;
+edited) echo '// edited' >>../numbers/src/lib.rt ;;
 esac
-cp "$built/$2" "target/bin/$2"
-echo "rt: $2 proved (1 s)"
+cp "$built/$name/out/$name" "out/$name"
 if [ "$mode" = failing ]; then
-    echo "rt: $2 proved, and its run FAILED (0 s)"
+    echo 'logic=not-proved'
     exit 1
 fi
-echo "$stamp" >"target/stamp/$2"
+echo 'logic=proved functions=1'
+stamp >"out/$name.stamp"
+echo "rt: running out/$name; to give it other input, run that file yourself"
+exec "out/$name"
 END
 chmod 755 "$work/bin/rt"
 without_rt=$(printf '%s' "$PATH" | tr : '\n' | while read -r folder; do
@@ -51,8 +54,7 @@ line='36 2 8 0 0'
 fresh() { # a clone in which nothing is built
     chmod -R u+w "$work/clone" 2>/dev/null
     rm -rf "$work/clone"
-    mkdir -p "$work/clone"
-    cp -R wit show docs VERSION crates crates.txt examples "$work/clone/"
+    copy_sources "$work/clone"
     chmod -R a+rX "$work/clone"
     : >"$calls"
 }
@@ -99,29 +101,30 @@ echo 'another page' >"$work/clone/crates/numbers/README"
 run quick
 ends 'an edit that rt does not count as one' 0 "$line" 3
 same 'it was not built again' 0 "$(grep -c 'building' "$work/said")"
-rm "$work/clone/target/bin/run_routine"
+rm "$work/clone/crates/run_routine/out/run_routine"
 run quick
 ends 'a program that is gone' 0 "$line" 4
-echo 'echo 0 0 0 0 0' >"$work/clone/target/bin/run_routine"
+echo 'echo 0 0 0 0 0' >"$work/clone/crates/run_routine/out/run_routine"
 run quick
 ends 'a program that is not the one that was built' 0 "$line" 5
 rm -r "$work/clone/target/wit"
 run quick
-ends 'a target that rt made alone' 0 "$line" 6
+ends 'a program that rt built alone' 0 "$line" 6
 run quick
 ends 'and then no more' 0 "$line" 6
 echo '// a third line' >>"$work/clone/crates/numbers/src/lib.rt"
-(cd "$work/clone" && mode=quick "$work/bin/rt" check run_routine >/dev/null && printf x >>target/bin/run_routine)
+(cd "$work/clone/crates/run_routine" && mode=quick "$work/bin/rt" run >/dev/null </dev/null && touch -d 2001-01-01 out/run_routine)
 run quick
 ends 'a program that rt has built anew' 0 "$line" 8
-same 'it was not built again' "x, 0" "$(tail -c 1 "$work/clone/target/bin/run_routine"), $(grep -c building "$work/said")"
+same 'it was not built again' "2001, 0" \
+    "$(date -r "$work/clone/crates/run_routine/out/run_routine" +%Y), $(grep -c building "$work/said")"
 
 echo 'tests/build.sh: what is never used'
 fresh
 run failing
 ends 'a program whose check failed' 3 '' 1
-says 'a program whose check failed' 'wit: run_routine is not used: rt check failed (target/wit/log)'
-same 'it was linked all the same' yes "$([ -x "$work/clone/target/bin/run_routine" ] && echo yes)"
+says 'a program whose check failed' 'wit: run_routine is not used: rt run failed (target/wit/log)'
+same 'it was linked all the same' yes "$([ -x "$work/clone/crates/run_routine/out/run_routine" ] && echo yes)"
 run failing
 ends 'the second time' 3 '' 2
 run failing "$without_rt"

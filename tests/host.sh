@@ -7,7 +7,7 @@ cd "$(dirname "$0")/.."
 out=$(mktemp -d)
 trap 'rm -rf "$out"' EXIT
 
-rt staticlib controller >"$out/log" 2>&1 || { tail -n 5 "$out/log"; echo '0 passed, 1 failed'; exit 1; }
+host/archive.sh >"$out/log" 2>&1 || { tail -n 5 "$out/log"; echo '0 passed, 1 failed'; exit 1; }
 archive=target/staticlib/libcontroller.a
 as_root() { if [ "$(id -u)" -eq 0 ]; then "$@"; else sudo -n "$@"; fi; }
 from_debian() { # PACKAGE..
@@ -65,6 +65,6 @@ for first in first-c first-rs; do
         "$("${run[@]}" "$out/$first" examples/damaged-cut-off.routine)"
 done
 missing=$(TOLTJEBRIM_ARCHIVE="$out/libnone.a" "${cargo[@]}" build "${package[@]}" 2>&1 || true)
-same 'a missing library is told' yes "$(grep -q 'there is no library at .*libnone.a: run `rt staticlib controller`' <<<"$missing" && echo yes)"
+same 'a missing library is told' yes "$(grep -q 'there is no library at .*libnone.a: run `host/archive.sh`' <<<"$missing" && echo yes)"
 echo "$passed passed, $failed failed"
 [ "$failed" -eq 0 ]

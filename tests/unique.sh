@@ -10,7 +10,8 @@ stated=crates/unique/specs/Once.antt
 proved=crates/unique/proofs/Once.antt
 
 # A line for each public function of a source: name, parameters, and what its statement has to promise. The
-# answer's name comes first, then each lent buffer's with a mark; clauses are joined by a product.
+# answer comes first, as `result`, then each lent buffer's name with a mark for what it holds afterwards; clauses
+# are joined by a product.
 contracts() { # FILE
     awk '
         function between(text, left, right,   at) {
@@ -19,16 +20,25 @@ contracts() { # FILE
             text = substr(text, at + length(left))
             return substr(text, 1, index(text, right) - 1)
         }
+        # What stands in the braces that a text begins with, braces within it too.
+        function braced(text,   at, depth, c) {
+            for (at = 1; at <= length(text); at++) {
+                c = substr(text, at, 1)
+                if (c == "{") depth++
+                if (c == "}" && --depth == 0) return substr(text, 2, at - 2)
+            }
+            return ""
+        }
         /^ *pub (extern "C" )?fn / { reading = 1; head = "" }
         reading && /^ *\{ *$/ { reading = 0; tell() }
         reading { head = head " " $0 }
-        function tell(   name, list, n, i, part, names, bound, many, answer, clauses, promise, text) {
+        function tell(   name, list, n, i, part, names, bound, many, clauses, clause, promise, text) {
             name = head
             sub(/^ *pub (extern "C" )?fn /, "", name)
             sub(/[^a-z0-9_].*/, "", name)
             text = head
             sub(/ ensures .*/, "", text)
-            answer = text ~ /->/
+            if (text ~ /->/) { bound = "result"; many++ }
             list = between(head, "(", ")")
             n = split(list, part, ",")
             for (i = 1; i <= n; i++) {
@@ -37,26 +47,25 @@ contracts() { # FILE
                 sub(/:.*/, "", text)
                 gsub(/ /, "", text)
                 names = names (names == "" ? "" : " ") text
-                if (part[i] ~ /&(.[a-z]+ )?mut /) { bound = bound (bound == "" ? "" : ", ") text "′"; many++ }
+                if (part[i] ~ /&(.[a-z]+ )?mut /) { bound = bound (bound == "" ? "" : ", ") text "\047"; many++ }
             }
             text = head
-            while (index(text, "⌜")) {
-                if (clauses == 0 && answer) {
-                    bound = between(text, "λ ", ".") (bound == "" ? "" : ", ") bound
-                    many++
-                }
-                promise = promise (clauses++ ? ") × (" : "") between(text, "⌜ ", " ⌝")
-                text = substr(text, index(text, "⌝") + 3)
+            while (match(text, / ensures\*? [a-z0-9_ ]*\{/)) {
+                text = substr(text, RSTART + RLENGTH - 1)
+                clause = braced(text)
+                text = substr(text, length(clause) + 2)
+                gsub(/^ +| +$/, "", clause)
+                promise = promise (clauses++ ? ") × (" : "") clause
             }
             if (clauses > 1) promise = "(" promise ")"
             if (many > 1) bound = "(" bound ")"
             print name "|" names "|λ " bound ". " promise
         }' "$1" |
-        sed -E 's/now \(([a-z0-9_]+) \.exit\)/\1′/g; s/now \(([a-z0-9_]+) \.entry\)/\1/g; s/ \.entry//g
-            s/\(([a-z0-9_]+(′)?)\)/\1/g; s/  +/ /g'
+        sed -E "s/(^|[ (])([a-z0-9_]+)\.new/\1\2'/g; s/(^|[ (])([a-z0-9_]+)\.(now|old)/\1\2/g; s/([a-z0-9_]+)\.entry/\1/g
+            s/  +/ /g"
 }
 
-# What stands in a statement: its parameters, and its promise.
+# What stands in a statement: its parameters, and its promise, with the answer as `result`.
 statement() { # NAME
     awk -v name="$1" '
         BEGIN { RS = "" }
@@ -67,11 +76,20 @@ statement() { # NAME
             names = substr($0, 1, at - 1)
             promise = substr($0, at + length("→ Once "))
             sub(/^\{A = [^}]*\} /, "", promise)
-            while (match(names, /\([a-z0-9 ]+ :/)) {
+            while (match(names, /\([a-z0-9_ ]+ :/)) {
                 list = list (list == "" ? "" : " ") substr(names, RSTART + 1, RLENGTH - 3)
                 names = substr(names, RSTART + RLENGTH)
             }
-            print list "|" substr(promise, 2, length(promise) - 2)
+            promise = substr(promise, 2, length(promise) - 2)
+            if (match(promise, /^λ \(?[a-z]+[,.]/)) {
+                answer = substr(promise, RSTART, RLENGTH - 1)
+                sub(/^λ \(?/, "", answer)
+                while (match(promise, "(^|[^a-z0-9_\047.])" answer "($|[^a-z0-9_\047])")) {
+                    at = RSTART + index(substr(promise, RSTART, RLENGTH), answer) - 1
+                    promise = substr(promise, 1, at - 1) "result" substr(promise, at + length(answer))
+                }
+            }
+            print list "|" promise
         }' "$stated" | sed -E 's/[A-Z][A-Za-z]*\.([a-z])/\1/g'
 }
 
@@ -81,12 +99,14 @@ for root in crates/*/src/lib.rt; do
     crate=${root#crates/}
     crate=${crate%%/*}
     while IFS='|' read -r function names promise; do
-        functions=$((functions + 1))
-        name=$crate-${function//_/-}
-        if ! grep -q "^pub $name-once : $name\$" "$proved"; then
+        # controller_c hands on a function of controller, with its clauses, under the name that hosts link
+        case $crate in *_c) ;; *) functions=$((functions + 1)) ;; esac
+        name=${crate%_c}_$function
+        found=$(sed -n "s/^pub ${name}_once : \($name\(_lem\)\?\)\$/\1/p" "$proved")
+        if [ -z "$found" ]; then
             flunk "$crate: $function has no statement that is proved"
         else
-            same "$crate: $function" "$names|$promise" "$(statement "$name")"
+            same "$crate: $function" "$names|$promise" "$(statement "$found")"
         fi
     done < <(find "${root%/lib.rt}" -name '*.rt' | sort | while read -r source; do contracts "$source"; done)
 done

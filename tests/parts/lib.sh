@@ -40,12 +40,27 @@ numbers() {
     done
 }
 
+# The command and what it builds from, with nothing built.
+copy_sources() { # FOLDER
+    mkdir -p "$1"
+    cp -R wit show docs VERSION crates.txt examples "$1/"
+    tar -c --exclude='crates/*/out' crates | tar -x -C "$1"
+}
+
 # A copy of the command with its built programs, in which a test may break what it likes and which any user
 # can reach.
 copy_clone() { # FOLDER
-    mkdir -p "$1/target"
-    cp -R wit show docs VERSION crates crates.txt examples "$1/"
-    cp -R target/bin target/stamp target/wit "$1/target/"
+    local program
+    copy_sources "$1"
+    for program in crates/*/src/main.rt; do
+        program=${program%/src/main.rt}
+        program=${program#crates/}
+        [ -s "crates/$program/out/$program.stamp" ] || continue
+        mkdir "$1/crates/$program/out"
+        cp -p "crates/$program/out/$program" "crates/$program/out/$program.stamp" "$1/crates/$program/out/"
+    done
+    mkdir "$1/target"
+    cp -R target/wit "$1/target/"
     chmod -R a+rX "$1"
 }
 
