@@ -5,13 +5,13 @@ use Prim.Native.Nat.{ℕ, suc, ◌+◌, ◌<◌, ◌≤◌}
 use native.Mathlib.Numerals.{add-one}
 use native.Mathlib.Omega.{arith}
 use mathlib.Core.Path.{◌≡◌, refl, sym, ◌∙◌, ap, ap₂}
-use mathlib.Core.List.{List, [], ◌∷◌, ◌++◌, append_assoc}
+use mathlib.Core.List.{List, [], ◌∷◌, ◌++◌}
 use lib.ListN.{length, get_or, take, drop, length-append}
 use lib.Seq.{take_all, take-suc, split_at, get_or_at, get_or-append-add}
 use Rattle.opcodes.specs.declared.Instr.{Instr}
 use Rattle.opcodes.specs.declared.Instr.TheVariants.{End}
 use Rattle.files.specs.Program.{Program}
-use Rattle.opcodes.specs.View.{one, four, Aim, in_global, at_temp, View, act, jump, jump_if, store, check, view, check_instr}
+use Rattle.opcodes.specs.View.{one, four, Aim, in_global, at_temp, check, view, check_instr}
 use Rattle.instructions.specs.Moved.{moved}
 use Rattle.instrumenter.specs.Instrumented.{checks_of, check_of, guarded, span_of, new_place}
 use Rattle.instrumenter.proofs.Spans.{span_append, guarded_append, length-guarded}

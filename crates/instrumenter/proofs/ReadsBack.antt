@@ -8,9 +8,9 @@ use mathlib.Core.Bool.{true}
 use lib.ListN.{length}
 use Rattle.files.specs.Program.{Program}
 use Rattle.files.specs.Reading.{whole, read_file}
-use Rattle.coloring.specs.Colored.{color_in, few_classes}
+use Rattle.coloring.specs.Colored.{color_in}
 use Rattle.layout.specs.Layout.{pieces_of, fits}
-use Rattle.routines.specs.Accepted.{globals_fit, Accepted}
+use Rattle.routines.specs.Accepted.{Accepted}
 use Rattle.routines.proofs.Layouts.{own_fit}
 use Rattle.instrumenter.specs.Instrumented.{instrumented}
 use Rattle.instrumenter.specs.Answer.{FileAnswer, file, new_file, instrument}
