@@ -57,6 +57,7 @@ pub fn by_opcode(opcode: u32, x: u32, y: u32, z: u32, w: u32, size: u16) -> Natu
 }
 
 // What an instruction is, over the sizes of the objects.
+#[tactic(auto, using(crate::proofs::Natures::nature_whole, crate::proofs::Natures::sizes_inside, crate::proofs::Natures::sizes_past))]
 pub fn nature_of(i: Instr, sizes: &[u16; 400]) -> Nature
     ensures { result ≡ nature_of (sizes_in sizes.now) (view i) }
 {
