@@ -102,11 +102,10 @@ for root in crates/*/src/lib.rt; do
         # controller_c hands on a function of controller, with its clauses, under the name that hosts link
         case $crate in *_c) ;; *) functions=$((functions + 1)) ;; esac
         name=${crate%_c}_$function
-        found=$(sed -n "s/^pub ${name}_once : \($name\(_lem\)\?\)\$/\1/p" "$proved")
-        if [ -z "$found" ]; then
+        if ! grep -q "^pub ${name}_once : $name\$" "$proved"; then
             flunk "$crate: $function has no statement that is proved"
         else
-            same "$crate: $function" "$names|$promise" "$(statement "$found")"
+            same "$crate: $function" "$names|$promise" "$(statement "$name")"
         fi
     done < <(find "${root%/lib.rt}" -name '*.rt' | sort | while read -r source; do contracts "$source"; done)
 done
