@@ -2,7 +2,6 @@
 -- the plain rule gives. No color and no version 2 stands here; what the table holds afterwards is said
 -- by TableAfter.
 use Rattle.std.specs.Prelude.{ℕ, List, ◌++◌, true, false, length, drop}
-use Rattle.numbers.specs.declared.Refusal.{Refusal}
 use Rattle.files.specs.Program.{Program}
 use Rattle.files.specs.Reading.{Reading, whole, refusal, read_file}
 use Rattle.routines.specs.Accepted.{accepted}

@@ -1,5 +1,4 @@
 -- What a function inside the crate promises; no demand cites it.
-use Rattle.std.specs.Prelude.{ℕ}
 use Rattle.numbers.specs.declared.Refusal.{Refusal}
 use Rattle.files.specs.Reading.{refusal}
 use Rattle.instrumenter.specs.declared.Instrumented.{Instrumented}

@@ -2,7 +2,7 @@
 -- is run to a stop or refused for one; what is refused changes nothing.
 use Prim.Native.Nat.{ℕ, zero, suc, ◌≤◌}
 use native.Mathlib.Omega.{arith}
-use mathlib.Core.Path.{◌≡◌, refl, sym, ◌∙◌, ap, subst}
+use mathlib.Core.Path.{◌≡◌, refl, ◌∙◌, ap, subst}
 use mathlib.Core.List.{List, [], ◌∷◌}
 use mathlib.Core.Bool.{Bool, true, false}
 use lib.ListN.{length}
@@ -20,19 +20,17 @@ use Rattle.coloring.specs.Colored.{color_in, class_count}
 use Rattle.layout.specs.Layout.{pieces_of, end_of, fits}
 use Rattle.routines.specs.Accepted.{plain_pieces, Accepted}
 use Rattle.instrumenter.specs.Instrumented.{instrumented}
-use Rattle.instrumenter.specs.Answer.{FileAnswer, file, new_file, instrument, room_holding}
+use Rattle.instrumenter.specs.Answer.{FileAnswer, new_file, instrument, room_holding}
 use Rattle.instrumenter.proofs.Answers as answers
 use Rattle.instrumenter.proofs.Answers.{Because, answered_because}
 use Rattle.instrumenter.proofs.Instrumenting.{instrumented_good}
 use Rattle.instrumenter.proofs.ReadsBack.{new_file_reads}
 use Rattle.stops.specs.Stop.{number_of}
 use Rattle.machine.specs.State.{Given}
-use Rattle.machine.specs.Runs.{runs}
 use Rattle.start.specs.First.{first_table}
 use Rattle.machine.specs.Colors.{table_rule}
-use Rattle.machine.specs.Running as running
 use Rattle.machine.specs.Running.{Lent, refuse, run_program, run_reading, exact_lengths, run_file}
-use Rattle.plain.specs.Demands.{Stops, NotAccepted, Refuses, RefusedOnlyFor, Written, AcceptedIsWritten, RunRefuses, stop_numbers, run_numbers, Answered, RunIsAnswered}
+use Rattle.plain.specs.Demands.{Stops, NotAccepted, Refuses, RefusedOnlyFor, AcceptedIsWritten, RunRefuses, stop_numbers, run_numbers, Answered, RunIsAnswered}
 use Rattle.plain.proofs.Stopping.{run_stops}
 use Rattle.plain.proofs.Halting.{stops_listed}
 use Rattle.plain.proofs.Itself.{guards_itself}

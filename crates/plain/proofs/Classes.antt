@@ -1,10 +1,7 @@
 -- Demand 2, of the definitions: classes and colors, and that what is written reads back.
-use Prim.Native.Nat.{ℕ}
-use mathlib.Core.Path.{◌≡◌, sym, ◌∙◌, ap}
-use Rattle.files.specs.Program.{Program}
-use Rattle.files.specs.Reading.{read_file, whole}
+use mathlib.Core.Path.{sym, ◌∙◌, ap}
+use Rattle.files.specs.Reading.{read_file}
 use Rattle.files.proofs.RoundTrip as files
-use Rattle.coloring.specs.Class.{same_class}
 use Rattle.coloring.proofs.Chains as chains
 use Rattle.coloring.proofs.Colors as colors
 use Rattle.coloring.proofs.Order as order

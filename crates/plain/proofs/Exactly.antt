@@ -2,12 +2,12 @@
 -- at an unsafe store, the table's run stands at the store's check, and the two rules answer alike.
 use Prim.Native.Nat.{ℕ, ◌<◌}
 use mathlib.Core.Path.{◌≡◌, refl, sym, ◌∙◌, ap, subst}
-use mathlib.Core.List.{List, [], ◌∷◌}
-use mathlib.Core.Bool.{true, false}
+use mathlib.Core.List.{List}
+use mathlib.Core.Bool.{false}
 use lib.ListN.{length}
 use Rattle.files.specs.Program.{Program}
-use Rattle.opcodes.specs.View.{Aim, store, check, view}
-use Rattle.safety.specs.Unsafe.{safe_aim, set_of, Unsafe, unsafe_in}
+use Rattle.opcodes.specs.View.{Aim, store, view}
+use Rattle.safety.specs.Unsafe.{safe_aim, set_of, Unsafe}
 use Rattle.coloring.specs.Color.{color_of_set}
 use Rattle.safety.proofs.Stores.{unsafe_store, unsafe_one, Stores, stores}
 use Rattle.layout.specs.Layout.{start_of}

@@ -3,22 +3,21 @@
 use Prim.Native.Nat.{ℕ, zero, suc, ◌+◌, ◌%◌, ◌<◌, ◌≤◌}
 use native.Mathlib.Nat.{not-suc-le-zero, le_of_suc-le-suc}
 use native.Mathlib.Omega.{arith}
-use mathlib.Core.Path.{◌≡◌, refl, sym, ◌∙◌, ap, ap₂, subst}
+use mathlib.Core.Path.{◌≡◌, refl, sym, ◌∙◌, ap, subst}
 use mathlib.Core.List.{List, [], ◌∷◌, ◌++◌, append_assoc}
 use mathlib.Core.Bool.{Bool, true, false, not}
 use lib.ListN.{length, get_or, length-append}
 use lib.Seq.{get_or_at}
 use lib.Dec.{eqb}
-use borrow.Author.Tests.{eq-eqb, ne_eqb, eqb-true, leb-true}
+use borrow.Author.Tests.{eq-eqb, eqb-true, leb-true}
 use Rattle.files.specs.declared.Object.{Object}
 use Rattle.files.specs.Program.{Program}
 use Rattle.opcodes.specs.View.{extent}
 use Rattle.safety.specs.Unsafe.{unsafe_sets, size_of}
 use Rattle.coloring.specs.Class.{unsafe_object}
 use Rattle.coloring.specs.Colored.{tinted}
-use Rattle.layout.specs.Layout.{Piece, pieces_of, start_of, end_of, fits}
+use Rattle.layout.specs.Layout.{Piece, start_of, end_of, fits}
 use Rattle.layout.proofs.Places.{piece_at, extent_at, start_whole, ends_below, globals_apart}
-use Rattle.plain.specs.Guards.{Exact}
 use Rattle.start.specs.First.{paint_globals}
 use Rattle.heap.specs.Heap.{heap_start}
 use Rattle.plain.specs.Live.{Live, owns}

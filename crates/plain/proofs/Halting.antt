@@ -1,11 +1,10 @@
 -- A run never stops for a refusal: whatever the rule and the code, a step stops for one of 01's stops.
-use Prim.Native.Nat.{ℕ}
 use mathlib.Core.Path.{◌≡◌, refl, subst}
 use mathlib.Core.Bool.{Bool, true, false}
 use lib.ListN.{length, get_or}
 use lib.Dec.{ltb}
 use Rattle.opcodes.specs.declared.Instr.{Instr}
-use Rattle.opcodes.specs.View.{View, view}
+use Rattle.opcodes.specs.View.{view}
 use Rattle.coloring.specs.Class.{holds}
 use Rattle.stops.specs.declared.Reason.{Reason}
 use Rattle.stops.specs.Stop.{number_of}

@@ -1,13 +1,13 @@
 -- 01's own colors are exact, so version 2 of an accepted routine guards it.
 use Prim.Native.Nat.{ℕ, ◌<◌}
 use native.Mathlib.Omega.{arith}
-use mathlib.Core.Path.{◌≡◌, refl, sym, ◌∙◌, ap}
-use mathlib.Core.List.{[], ◌∷◌, map}
+use mathlib.Core.Path.{refl, sym, ap}
+use mathlib.Core.List.{map}
 use lib.ListN.{length}
 use Rattle.files.specs.Program.{Program}
 use Rattle.opcodes.specs.declared.Instr.{Instr}
 use Rattle.opcodes.specs.View.{view, check_instr}
-use Rattle.safety.specs.Unsafe.{Unsafe, unsafe_in, unsafe_sets}
+use Rattle.safety.specs.Unsafe.{Unsafe, unsafe_sets}
 use Rattle.coloring.specs.Color.{color_of_set}
 use Rattle.coloring.specs.Colored.{color_in}
 use Rattle.safety.proofs.Stores.{unsafe_store, Stores, stores}

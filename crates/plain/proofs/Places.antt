@@ -13,7 +13,6 @@ use borrow.Author.Tests.{ltb-true, ltb-false}
 use Rattle.opcodes.specs.declared.Instr.{Instr}
 use Rattle.files.specs.Program.{Program}
 use Rattle.opcodes.specs.View.{View, act, jump, jump_if, store, check, view}
-use Rattle.safety.specs.Unsafe.{set_of}
 use Rattle.instructions.proofs.Moving.{moved_view, view_moved}
 use Rattle.instrumenter.proofs.Guarded.{view_check}
 use Rattle.stops.specs.Stop.{counts, places_in, place_in}

@@ -21,9 +21,8 @@ use Rattle.instructions.proofs.Moving.{moved_view, view_moved}
 use Rattle.instrumenter.proofs.Guarded.{view_check}
 use Rattle.memory.specs.Memory.{memory_size, color_at, put, bytes_of}
 use Rattle.memory.proofs.Memory.{put_outside, length-bytes_of}
-use Rattle.machine.specs.State.{Given, State, start_state, temp, address_of, width_of}
+use Rattle.machine.specs.State.{Given, State, temp, address_of, width_of}
 use Rattle.machine.specs.Step.{next, step}
-use Rattle.start.specs.First.{first_table}
 use Rattle.machine.specs.Colors.{table_rule}
 use Rattle.machine.proofs.Steps.{goes_in_code, store_writes}
 use Rattle.machine.proofs.Effects.{image}
@@ -39,7 +38,7 @@ use Rattle.plain.proofs.Rules.{rule₂, start_same}
 use Rattle.plain.proofs.Standing.{alone, checked}
 use Rattle.plain.proofs.Lockstep.{placed, Colored}
 use Rattle.plain.proofs.Through.{Through, through}
-use Rattle.routines.specs.Accepted.{plain_pieces, Accepted}
+use Rattle.routines.specs.Accepted.{plain_pieces}
 
 -- no live object of a list owns a byte
 abbrev Unowned : List Live → (a : ℕ) → Type 0

@@ -1,15 +1,14 @@
 -- What has to be proved, as types. Each of them has a theorem of exactly that type (docs/PROMISES.md).
 use Rattle.std.specs.Prelude.{ℕ, ◌^◌, ◌≤◌, ◌<◌, ◌≡◌, List, [], ◌∷◌, ◌++◌, true, false, length, get_or}
 use Rattle.numbers.specs.declared.Refusal.{Refusal}
-use Rattle.opcodes.specs.declared.Instr.{Instr}
 use Rattle.opcodes.specs.View.{Aim, store, check, view}
 use Rattle.files.specs.Program.{Program}
-use Rattle.files.specs.Reading.{Reading, whole, refusal, read_file}
-use Rattle.files.specs.Writing.{good_program, spell_file, Says}
+use Rattle.files.specs.Reading.{whole, refusal, read_file}
+use Rattle.files.specs.Writing.{spell_file, Says}
 use Rattle.refusals.specs.Why.{Why}
 use Rattle.safety.specs.Unsafe.{Unsafe, unsafe_in}
 use Rattle.coloring.specs.Class.{holds, Chain, same_class}
-use Rattle.coloring.specs.Color.{Legal, Keeps, Numbering, color_of_set, color_of}
+use Rattle.coloring.specs.Color.{Legal, Numbering, color_of_set, color_of}
 use Rattle.coloring.specs.Colored.{color_in, class_count}
 use Rattle.layout.specs.Layout.{pieces_of, end_of}
 use Rattle.memory.specs.Memory.{memory_size, color_at}
