@@ -20,6 +20,3 @@ abbrev pub invariant-loop-i : goal.invariant-loop-i
 invariant-loop-i l =
     (l.lines ≡ l.scope.lines) × (l.i ≤ l.lines) × (l.total ≤ 25 * l.i)
     × Adding (good_instr (scope_over l.scope l.kinds)) (spell_instr l.scope.version) (tabulate (instr_of l.code) 0 l.lines) (tabulate (instr_of l.code) l.i (l.lines - l.i)) l.total
-
-abbrev pub decreases-loop-i : goal.decreases-loop-i
-decreases-loop-i l = l.lines - l.i

@@ -10,6 +10,3 @@ abbrev pub invariant-loop-i : goal.invariant-loop-i
 invariant-loop-i l =
     (l.i ≤ l.count) × (l.total ≤ 15 * l.i)
     × Adding (good_object 2) (spell_object 2) (tabulate (object_in l.kinds l.sizes l.colors) 0 l.count) (tabulate (object_in l.kinds l.sizes l.colors) l.i (l.count - l.i)) l.total
-
-abbrev pub decreases-loop-i : goal.decreases-loop-i
-decreases-loop-i l = l.count - l.i

@@ -16,6 +16,3 @@ instr_of code i = (get_or code i (line Instr.End)).instr
 abbrev pub invariant-loop-i : goal.invariant-loop-i
 invariant-loop-i l =
     (l.i ≤ l.lines) × Going (spell_instr 2) (tabulate (instr_of l.code) 0 l.lines) (tabulate (instr_of l.code) l.i (l.lines - l.i)) l.initial.room l.at l.room l.place
-
-abbrev pub decreases-loop-i : goal.decreases-loop-i
-decreases-loop-i l = l.lines - l.i

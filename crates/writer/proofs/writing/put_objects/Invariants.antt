@@ -9,6 +9,3 @@ use Rattle.writer.proofs.writing.put_objects.Given as goal
 abbrev pub invariant-loop-i : goal.invariant-loop-i
 invariant-loop-i l =
     (l.i ≤ l.count) × Going (spell_object 2) (tabulate (object_in l.kinds l.sizes l.colors) 0 l.count) (tabulate (object_in l.kinds l.sizes l.colors) l.i (l.count - l.i)) l.initial.room l.at l.room l.place
-
-abbrev pub decreases-loop-i : goal.decreases-loop-i
-decreases-loop-i l = l.count - l.i
