@@ -49,7 +49,9 @@ fn refused_file(q: Refusal) -> Loaded
     }
 }
 
-// A file that was read to its end, from its parts.
+// A file that was read to its end, from its parts. Always inlined: as a call it would hold a second copy of the
+// file on the stack, and a host's call would take more than host/toltjebrim.h says.
+#[inline(always)]
 fn whole_file(objects: Objects, sets: Sets, code: Code) -> Loaded
     ensures { result ≡ whole_of objects sets code }
 {
