@@ -34,7 +34,7 @@ pub returns-then-bits-gt15 : goal.returns-then-bits-gt15
 returns-then-bits-gt15 c =
     let byte : ℕ = get_or c.args.file.now c.loop-group.at 0 in
     let over_it : largest c.loop-group.group < byte =
-    rw (c.if-group-eq4.true, largest) (omega (arith, bits byte)) in
+    let fifth : c.loop-group.group ≡ 4 = omega (arith, c.if-group-eq4.true) in rw (fifth, largest) (omega (arith, bits byte)) in
     c.refused-then-bits-gt15.ensures ∙ over c.loop-group.invariant.1 c.loop-group-test.true c.if-file-at.false over_it
 
 pub returns-then-group-gt0 : goal.returns-then-group-gt0
