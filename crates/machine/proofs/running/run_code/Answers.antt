@@ -34,17 +34,19 @@ pub returns-then-lines-at : goal.returns-then-lines-at
 returns-then-lines-at c = let s = c.args in
     let l = c.loop-starts in
     let fits : s.lines ≤ length s.code = omega (arith, c.requires.0, c.well_formed.0.1.0.1) in
-    ap (λ (x : Run). answered x (lent_of l.memory l.table l.room)) c.recorded.ensures
-    ∙ stops_past (course_of s.lines s.input.now s.limit s.memory.now s.table.now s.room.now s.code s.starts s.colors)
-    (held l.temps l.memory l.table l.room) l.now l.invariant.0 (omega (arith, code_length s.code s.lines fits, c.if-lines-at.true))
+    let stops =
+    stops_past (course_of s.lines s.input.now s.limit s.memory.now s.table.now s.room.now s.code s.starts s.colors)
+    (held l.temps l.memory l.table l.room) l.now l.invariant.0 (omega (arith, code_length s.code s.lines fits, c.if-lines-at.true)) in
+    cc
 
 pub returns-then-limit-steps : goal.returns-then-limit-steps
 returns-then-limit-steps c = let s = c.args in
     let l = c.loop-starts in
     let fits : s.lines ≤ length s.code = omega (arith, c.requires.0, c.well_formed.0.1.0.1) in
-    ap (λ (x : Run). answered x (lent_of l.memory l.table l.room)) c.recorded-then-limit-steps.ensures
-    ∙ stops_limit (course_of s.lines s.input.now s.limit s.memory.now s.table.now s.room.now s.code s.starts s.colors)
-    (held l.temps l.memory l.table l.room) l.now l.invariant.0 (omega (arith, code_length s.code s.lines fits)) (omega arith)
+    let stops =
+    stops_limit (course_of s.lines s.input.now s.limit s.memory.now s.table.now s.room.now s.code s.starts s.colors)
+    (held l.temps l.memory l.table l.room) l.now l.invariant.0 (omega (arith, code_length s.code s.lines fits)) (omega arith) in
+    cc
 
 pub step-turn-requires : goal.step-turn-requires
 step-turn-requires c = let s = c.args in
