@@ -11,10 +11,12 @@ use native.Mathlib.Decide.{dec_lt, dec_le}
 use native.Mathlib.Omega.{arith}
 use lib.ListN.{length, get_or, drop, length-drop}
 use lib.Seq.{drop-cons}
+use Rattle.std.specs.Prelude.{Ok, Err}
+use Rattle.numbers.specs.Refusals.{refusal}
+use Rattle.numbers.specs.declared.refusal.Why.{Why}
 use Rattle.numbers.specs.Number.{groups, largest, read_number}
 use Rattle.numbers.specs.declared.Cursor.{Cursor}
-use Rattle.numbers.specs.declared.Refusal.{Refusal}
-use Rattle.numbers.specs.declared.Read.TheVariants.{Number, Refused}
+use Rattle.numbers.specs.declared.refusal.Refusal.{Refusal}
 use Rattle.numbers.proofs.Spelling.{groups_last, groups_more, groups_join}
 use Rattle.numbers.proofs.Reading.{Reading, end, early, over, more, long, last}
 use Rattle.numbers.proofs.Reading.{joined, next_power, fits, fifth_most, may_stand, largest_most, short, short_or_long}
@@ -29,10 +31,10 @@ pub record Found (left : ℕ) (file : List ℕ) (at value i n : ℕ) (c : Cursor
   pub small : n < 2 ^ 32
 
 pub data Outcome (left : ℕ) (file : List ℕ) (first at value i : ℕ) : Type 0 where
-  refused : (q : Refusal) → Refused q ≡ read_number file first
-      → (q ≡ record { number = 2; place = length file }) ⊎ (q ≡ record { number = 3; place = first })
+  refused : (q : Refusal) → Err q ≡ read_number file first
+      → (q ≡ refusal Why.EndsEarly (length file)) ⊎ (q ≡ refusal Why.BadNumber first)
       → Outcome left file first at value i
-  number : (n : ℕ) (c : Cursor) → Number n c ≡ read_number file first → Found left file at value i n c
+  number : (n : ℕ) (c : Cursor) → Ok (n, c) ≡ read_number file first → Found left file at value i n c
       → Outcome left file first at value i
 
 -- ---- from the reading to the spelling
@@ -117,7 +119,7 @@ front s at b t e =
     (inside, cc, cc)
 
 pub reads : (left : ℕ) {file : List ℕ} {first at value i n : ℕ} {c : Cursor} → i + left ≡ 5
-    → Reading file first at value i → Found left file at value i n c → read_number file first ≡ Number n c
+    → Reading file first at value i → Found left file at value i n c → read_number file first ≡ Ok (n, c)
 reads zero {value = value} {i = i} {n = n} l r f =
     let five : i ≡ 5 = omega arith in
     let s : n ≡ joined value f.rest 5 = rw five at f.sum in
@@ -130,7 +132,7 @@ reads (suc left) {file} {first} {at} {value} {i} {n} {c} l r f =
           let ends : c.at ≡ at + 1 = rw (groups_last left _ t) at f.ends in
           let only : get_or file at 0 ≡ 0 → i ≡ 0 = λ z. f.shortly (sym is ∙ z) in
           sym (last r limit inside (allowed (omega arith) (λ h. omega arith)) (omega arith) (short i _ only))
-          ∙ ap₂ (λ (v a : ℕ). Number v (record { at = a })) (rw is (sym f.sum)) (sym ends)
+          ∙ ap₂ (λ (v a : ℕ). Ok (v, record { at = a })) (rw is (sym f.sum)) (sym ends)
       | no t ↦
           let t' : 128 ≤ f.rest = omega arith in
           let (inside, is, behind) = front file at _ _ (rw (groups_more left _ t') at f.stands) in

@@ -12,8 +12,8 @@ use lib.ListN.{length, get_or}
 use lib.Pow.{pow-add, pow_mono}
 use lib.Bits.{bit_and, and_mask}
 use borrow.Author.Tests.{lt-ltb, le-ltb, le-leb, lt-leb, eq-eqb, ne_eqb}
+use Rattle.std.specs.Prelude.{Ok}
 use Rattle.numbers.specs.Number.{read_groups, read_number, ends_early, bad_number, largest, shortest}
-use Rattle.numbers.specs.declared.Read.TheVariants.{Number}
 
 -- ---- the arithmetic of groups
 
@@ -151,7 +151,7 @@ module _ {file : List ℕ} {first at value i : ℕ} (r : Reading file first at v
               at r.answer
 
           pub last : shortest i (get_or file at 0) ≡ true
-              → Number (joined value (get_or file at 0) i) (record { at = at + 1 }) ≡ read_number file first
+              → Ok (joined value (get_or file at 0) i, record { at = at + 1 }) ≡ read_number file first
           unfolding read_groups
           last t =
               simp (turn_left i limit, ← r.place, lt-ltb _ _ inside, le-leb _ _ allowed, lt-ltb _ _ final, t, read_groups)

@@ -3,6 +3,7 @@ use mathlib.Core.Path.{◌≡◌, refl, ◌∙◌}
 use mathlib.Core.List.{List}
 use Prim.Native.Nat.{ℕ, ◌+◌, ◌/◌, ◌%◌, ◌^◌, ◌<◌, ◌≤◌}
 use native.Mathlib.Numerals.{add-one}
+use native.Mathlib.Decide.{dec_lt}
 use native.Mathlib.Omega.{arith}
 use lib.ListN.{length, set, length-set}
 use lib.Seq.{sets}
@@ -25,6 +26,23 @@ module _ {before room : List ℕ} {at n rest place : ℕ} (w : Writing before at
   -- the next byte has its room
   pub inside : place < length room
   inside = omega (arith, w.fits, w.as_long, w.ends, width_least rest)
+
+  -- where the last byte's place is reached, one group is left, and before it more than one
+  pub final : at + width n ≤ place + 1 → rest < 128
+  final h =
+      elim (dec_lt rest 128) [
+        | yes t ↦ t
+        | no t ↦
+            let more_left : 128 ≤ rest = omega arith in
+            absurd (omega (arith, w.ends, width_more rest more_left (omega (arith, w.small)), width_least (rest / 128)))
+      ]
+
+  pub followed : place + 1 < at + width n → 128 ≤ rest
+  followed h =
+      elim (dec_lt rest 128) [
+        | yes t ↦ absurd (omega (arith, w.ends, width_last rest t))
+        | no t ↦ omega arith
+      ]
 
   pub more : 128 ≤ rest → Writing before at n (set room place (rest % 128 + 128)) (rest / 128) (place + 1)
   more t =

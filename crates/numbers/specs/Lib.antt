@@ -1,2 +1,3 @@
 -- What the contracts of `numbers` cite.
 pub mod Number
+pub mod Refusals

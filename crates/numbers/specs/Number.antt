@@ -1,11 +1,15 @@
 -- 01, "Numbers and files", first paragraph: how a number is spelled, and what reading and writing one
 -- answers.
-use Rattle.std.specs.Prelude.{ℕ, zero, suc, ◌+◌, ◌*◌, ◌/◌, ◌%◌, ◌^◌, List, [], ◌∷◌, Bool, true, false, length, get_or, ltb, leb, eqb}
+use Rattle.std.specs.Prelude.{ℕ, zero, suc, ◌+◌, ◌*◌, ◌/◌, ◌%◌, ◌^◌, List, [], ◌∷◌, Bool, true, false, Option, None, Some, Result, Ok, Err, length, get_or, ltb, leb, eqb}
 use Rattle.std.proofs.lemmas.List.Edits.{sets}
-use Rattle.numbers.specs.declared.Read.{Read}
-use Rattle.numbers.specs.declared.Read.TheVariants.{Number, Refused}
-use Rattle.numbers.specs.declared.Written.{Written}
-use Rattle.numbers.specs.declared.Written.TheVariants.{Upto, TooSmall}
+use Rattle.numbers.specs.declared.Cursor.{Cursor}
+use Rattle.numbers.specs.declared.refusal.Refusal.{Refusal}
+use Rattle.numbers.specs.declared.refusal.Why.{Why}
+use Rattle.numbers.specs.Refusals.{refusal}
+
+-- what reading a number answers: the value with the cursor behind it, or a refusal
+abbrev pub Read : Type 0
+Read = Result (ℕ × Cursor) Refusal
 
 -- "A number is 0 to 4,294,967,295 in groups of seven bits, low group first; the top bit of a byte
 -- says that another follows. Only the shortest form is good": the bytes of n, at most `most` of them.
@@ -24,11 +28,11 @@ width n = length (spell n)
 
 -- "2 | file ends early | its length"
 abbrev pub ends_early : List ℕ → Read
-ends_early file = Refused (record { number = 2; place = length file })
+ends_early file = Err (refusal Why.EndsEarly (length file))
 
 -- "3 | number not shortest or above 32 bits | its first byte"
 abbrev pub bad_number : ℕ → Read
-bad_number first = Refused (record { number = 3; place = first })
+bad_number first = Err (refusal Why.BadNumber first)
 
 -- the largest byte that may stand as group i: "a fifth byte above 15 is refused with 3 at once"
 abbrev pub largest : ℕ → ℕ
@@ -54,7 +58,7 @@ read_groups (suc left) file first i value =
                   | true ↦
                       elim (shortest i (get_or file (first + i) 0)) [
                         | false ↦ bad_number first
-                        | true ↦ Number (value + get_or file (first + i) 0 * 2 ^ (7 * i)) (record { at = first + i + 1 })
+                        | true ↦ Ok (value + get_or file (first + i) 0 * 2 ^ (7 * i), record { at = first + i + 1 })
                       ]
                 ]
           ]
@@ -69,11 +73,11 @@ abbrev pub fits_at : (room : List ℕ) (at n : ℕ) → Bool
 fits_at room at n = leb (at + width n) (length room)
 
 -- the answer by 01's number: "10 | room .. too small", or where the number ends
-abbrev pub written_for : (number end : ℕ) → Written
-written_for number end = elim (eqb number 10) [ true ↦ TooSmall | false ↦ Upto end ]
+abbrev pub written_for : (number end : ℕ) → Option ℕ
+written_for number end = elim (eqb number 10) [ true ↦ None | false ↦ Some end ]
 
 -- what writing a number at a place of a room answers
-abbrev pub written_at : (room : List ℕ) (at n : ℕ) → Written
+abbrev pub written_at : (room : List ℕ) (at n : ℕ) → Option ℕ
 written_at room at n = elim (fits_at room at n) [ true ↦ written_for 0 (at + width n) | false ↦ written_for 10 0 ]
 
 -- the room afterwards: the spelling stands at the place and all else is as it was; what does not fit

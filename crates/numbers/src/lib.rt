@@ -4,9 +4,12 @@
 // written is the one shortest spelling. Nothing here asks anything of its caller.
 #![tactic(auto)]
 
-ghost use Rattle.std.specs.Prelude.{◌≡◌, ◌+◌, ◌/◌, ◌%◌, ◌<◌};
-ghost use Rattle.numbers.specs.declared.Read.TheVariants.{Refused};
+ghost use Rattle.std.specs.Prelude.{◌≡◌, ◌+◌, ◌/◌, ◌%◌, ◌<◌, Err};
 ghost use Rattle.numbers.specs.Number.{read_number, width, written_at, room_after};
+
+use refusal::{Refusal, Why};
+
+pub mod refusal; // refusal.rt: why a file is not taken
 
 // Where the next number of a file starts.
 #[derive(Clone, Copy)]
@@ -14,26 +17,14 @@ pub struct Cursor {
     pub at: usize,
 }
 
-// Why a file was not taken: one of 01's refusal numbers, and the place that goes with it.
-#[derive(Clone, Copy)]
-pub struct Refusal {
-    pub number: u8,
-    pub place: usize,
-}
-
-// What reading one number answers.
-#[derive(Clone, Copy)]
-pub enum Read {
-    // The value, and the cursor behind it.
-    Number(u32, Cursor),
-    Refused(Refusal),
-}
+// What reading one number answers: the value with the cursor behind it, or a refusal.
+pub type Read = Result<(u32, Cursor), Refusal>;
 
 // A refusal in place of a number.
-fn refused(number: u8, place: usize) -> Read
-    ensures { result ≡ Refused (record { number = number; place = place }) }
+fn refused(why: Why, place: usize) -> Read
+    ensures { result ≡ Err (record { why = why; place = place }) }
 {
-    Read::Refused(Refusal { number, place })
+    Err(Refusal { why, place })
 }
 
 // The number at a cursor, which may be any: past the end the file ends early. docs/FORMAT.md has the rules of a
@@ -47,36 +38,27 @@ pub fn read_number(file: &[u8], from: Cursor) -> Read
     // At most five groups, the low group first.
     for group in 0..5u32 {
         if file.len() <= at {
-            return refused(2, file.len());
+            return refused(Why::EndsEarly, file.len());
         }
         let byte = file[at] as u32;
         at += 1;
         let bits = byte & 127;
         // Four groups are 28 bits: of 32, a fifth has four.
         if group == 4 && 15 < bits {
-            return refused(3, first);
+            return refused(Why::BadNumber, first);
         }
         value += bits << (7 * group);
         // The top bit says that another follows; without it this group is the last.
         if byte < 128 {
             // Only the shortest form is good: no group of 0 behind others.
             if bits == 0 && 0 < group {
-                return refused(3, first);
+                return refused(Why::BadNumber, first);
             }
-            return Read::Number(value, Cursor { at });
+            return Ok((value, Cursor { at }));
         }
     }
     // The fifth byte says that another follows.
-    refused(3, first)
-}
-
-// What writing one number answers.
-#[derive(Clone, Copy)]
-pub enum Written {
-    // The place behind the last byte written.
-    Upto(usize),
-    // The number does not fit there, and no byte was changed.
-    TooSmall,
+    refused(Why::BadNumber, first)
 }
 
 // The low seven bits: one group.
@@ -114,22 +96,22 @@ pub fn number_width(n: u32) -> usize
     bytes
 }
 
-// Writes a number's spelling into a room from a place on, or nothing where it does not fit.
-pub fn write_number(room: &mut [u8], at: usize, n: u32) -> Written
+// Writes a number's spelling into a room from a place on, and answers the place behind it; where it does not fit,
+// `None`, and no byte is changed.
+pub fn write_number(room: &mut [u8], at: usize, n: u32) -> Option<usize>
     ensures answer { result ≡ written_at room.old at n }
     ensures room { room.new ≡ room_after room.old at n }
 {
     let bytes = number_width(n);
     if room.len() < at || room.len() - at < bytes {
-        return Written::TooSmall;
+        return None;
     }
+    let last = at + (bytes - 1);
     let mut rest = n;
-    let mut place = at;
-    while 128 <= rest {
+    for place in at..last {
         room[place] = followed(low_group(rest));
         rest = above_group(rest);
-        place += 1;
     }
-    room[place] = rest as u8;
-    Written::Upto(place + 1)
+    room[last] = rest as u8;
+    Some(last + 1)
 }

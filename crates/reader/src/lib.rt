@@ -1,8 +1,7 @@
 // A reader: a file's bytes and the place of the next number, held together.
 //
-// Each function over it takes it apart and leaves the work to a function on the bytes and the place;
-// `read_at`, which every reader of files calls, has plain parameters. Nothing here asks anything of its
-// caller.
+// Each method takes it apart and leaves the work to a function on the bytes and the place; `read_at`, which every
+// reader of files calls, has plain parameters. Nothing here asks anything of its caller.
 #![tactic(auto)]
 
 ghost use Rattle.std.specs.Prelude.{◌≡◌};
@@ -17,35 +16,30 @@ pub struct Reader<'a> {
     pub at: usize,
 }
 
-// The number at a place.
-fn number_from(file: &[u8], at: usize) -> Read
-    ensures { result ≡ read_number file.now at }
-{
-    read_number(file, Cursor { at })
-}
-
-// A reader at the start of a file.
-pub fn open<'a>(file: &'a [u8]) -> Reader<'a>
-    ensures { (result.file ≡ file.entry) × (result.at ≡ 0) }
-{
-    Reader { file, at: 0 }
-}
-
-// The reader behind what was read: where the cursor that came with it stands.
-pub fn after<'a>(r: Reader<'a>, read: Cursor) -> Reader<'a>
-    ensures { (result.file ≡ r.entry.file) × (result.at ≡ read.at) }
-{
-    Reader {
-        file: r.file,
-        at: read.at,
+impl<'a> Reader<'a> {
+    // A reader at the start of a file.
+    pub fn open(file: &'a [u8]) -> Self
+        ensures { (result.file ≡ file.entry) × (result.at ≡ 0) }
+    {
+        Reader { file, at: 0 }
     }
-}
 
-// The next number; `after` gives the reader behind it.
-pub fn number<'a>(r: Reader<'a>) -> Read
-    ensures { result ≡ read_number r.entry.file.now r.entry.at }
-{
-    number_from(r.file, r.at)
+    // The reader behind what was read: where the cursor that came with it stands.
+    pub fn after(self, read: Cursor) -> Self
+        ensures { (result.file ≡ self.entry.file) × (result.at ≡ read.at) }
+    {
+        Reader {
+            at: read.at,
+            ..self
+        }
+    }
+
+    // The next number; `after` gives the reader behind it.
+    pub fn number(self) -> Read
+        ensures { result ≡ read_number self.entry.file.now self.entry.at }
+    {
+        read_number(self.file, Cursor { at: self.at })
+    }
 }
 
 // The number at a cursor of a file, read through a reader. It promises what `numbers::read_number` does, to
@@ -53,5 +47,5 @@ pub fn number<'a>(r: Reader<'a>) -> Read
 pub fn read_at(file: &[u8], from: Cursor) -> Read
     ensures { result ≡ read_number file.now from.at }
 {
-    number(after(open(file), from))
+    Reader::open(file).after(from).number()
 }

@@ -4,8 +4,8 @@ use Prim.Native.Nat.{ℕ, ◌+◌, ◌%◌, ◌<◌, ◌≤◌}
 use native.Mathlib.Omega.{arith}
 use lib.ListN.{get_or}
 use lib.Bits.{bit_and, and_mask}
+use Rattle.std.specs.Prelude.{Ok}
 use Rattle.numbers.specs.Number.{largest}
-use Rattle.numbers.specs.declared.Read.TheVariants.{Number}
 use Rattle.numbers.proofs.Reading.{end, early, over, followed, long, last}
 use Rattle.numbers.proofs.Reading.{shifted, may_stand, short, not_short}
 use Rattle.numbers.proofs.read_number.Goals as goal
@@ -56,7 +56,7 @@ returns-then-byte-lt128 c =
     let most : byte ≤ largest c.loop-group.group =
     may_stand _ c.loop-group-test.true (omega arith) (λ e. omega (arith, c.if-byte-lt128.true, four e)) in
     let joins = shifted _ byte c.loop-group-test.true c.loop-group.invariant.1.small four in
-    ap (λ (v : ℕ). Number v (record { at = c.loop-group.at + 1 })) (rw whole at joins)
+    ap (λ (v : ℕ). Ok (v, record { at = c.loop-group.at + 1 })) (rw whole at joins)
     ∙ last c.loop-group.invariant.1 c.loop-group-test.true c.if-file-at.false most c.if-byte-lt128.true
     (short c.loop-group.group byte (alone c.loop-group.group byte c.else-bits-eq0.either))
 

@@ -1,7 +1,7 @@
 -- `numbers::read_number` meets its contract. The invariant is a `Reading`: what is left to read answers what the
 -- whole reading does. Each way out of a turn, and the turn to the next group, is one of its steps; the measure
 -- is the groups that may still come.
-use Prim.Native.Nat.{◌-◌, ◌≤◌}
+use Prim.Native.Nat.{◌≤◌}
 use Rattle.numbers.proofs.Reading.{Reading}
 use Rattle.numbers.proofs.read_number.Given as goal
 
