@@ -15,10 +15,12 @@ use lib.ListN.{length, get_or, replicate, length-replicate, get_or-replicate, le
 use lib.Seq.{ext_get_or}
 use lib.Dec.{ltb}
 use borrow.Author.Tests.{ltb-true, ltb-false, le-leb, lt-leb}
+use Rattle.numbers.specs.declared.refusal.Cause.{Cause}
+use Rattle.numbers.specs.Refusals.{refusal}
 use Rattle.files.specs.declared.Outcome.{Outcome}
 use Rattle.files.specs.declared.Loaded.{Loaded}
 use Rattle.files.specs.Program.{Program}
-use Rattle.files.specs.Reading.{Reading, whole, refusal, on_whole}
+use Rattle.files.specs.Reading.{Reading, whole, on_whole}
 use Rattle.files.specs.Held.{joined, ends_from, filled, held_as, held}
 use Rattle.files.proofs.RoundTrip.{Good}
 use Rattle.safety.specs.declared.Nature.TheVariants.{Listed}
@@ -188,7 +190,7 @@ module _ (p : Program) (good : Good 1 p) where
           ∙ sym (ap pick (lt-leb (class_count p) 254 h))
         where
           pick : Bool → Loaded
-          pick few = held (on_whole (λ p. whole (with_colors (color_in p) p)) (elim few [ true ↦ whole p | false ↦ Reading.refused (refusal 8 0) ]))
+          pick few = held (on_whole (λ p. whole (with_colors (color_in p) p)) (elim few [ true ↦ whole p | false ↦ Reading.refused (refusal Cause.ManyClasses 0) ]))
       go false e =
           let h : class_count p ≤ 254 = ltb-false 254 (class_count p) e in
           painting_few routine labels (filled 400 0 tints) (class_count p) (sym labels_are) (sym counted) h (sym colors_are)
@@ -196,4 +198,4 @@ module _ (p : Program) (good : Good 1 p) where
           ∙ sym (ap pick (le-leb (class_count p) 254 h))
         where
           pick : Bool → Loaded
-          pick few = held (on_whole (λ p. whole (with_colors (color_in p) p)) (elim few [ true ↦ whole p | false ↦ Reading.refused (refusal 8 0) ]))
+          pick few = held (on_whole (λ p. whole (with_colors (color_in p) p)) (elim few [ true ↦ whole p | false ↦ Reading.refused (refusal Cause.ManyClasses 0) ]))

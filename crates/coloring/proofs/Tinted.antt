@@ -4,7 +4,7 @@ use native.Mathlib.Omega.{arith}
 use mathlib.Core.Path.{◌≡◌, refl, ◌∙◌, ap}
 use mathlib.Core.List.{List, [], ◌∷◌, map}
 use lib.ListN.{length, get_or}
-use Rattle.files.specs.declared.Object.{Object}
+use Rattle.opcodes.specs.declared.Object.{Object}
 use Rattle.safety.specs.Unsafe.{size_of}
 use Rattle.coloring.specs.Colored.{tinted}
 

@@ -9,9 +9,11 @@ use mathlib.Core.Bool.{Bool, true, false}
 use lib.ListN.{get_or, set, replicate}
 use lib.Dec.{eqb}
 use borrow.Author.Tests.{lt-ltb, le-ltb, eq-eqb, ne_eqb}
+use Rattle.numbers.specs.declared.refusal.Cause.{Cause}
+use Rattle.numbers.specs.Refusals.{refusal}
 use Rattle.files.specs.declared.Line.{Line}
 use Rattle.files.specs.declared.Loaded.{Loaded}
-use Rattle.files.specs.Reading.{Reading, refusal}
+use Rattle.files.specs.Reading.{Reading}
 use Rattle.files.specs.Held.{held}
 use Rattle.coloring.specs.Labels.{touched, renamed, relabelled, united, span_joined, set_joined, sets_joined, own_marked, use_marked, nature_at, owns_marked, uses_marked, lead, leads, leaders, tint_by, tint, numbered_from, marks_in, used_in, labels_in, held_with, painting}
 
@@ -172,7 +174,7 @@ labels_from r marks labels used m u e =
     ∙ ap (sets_joined r.sets (used_in r) r.ends r.members 0 0) m
 
 pub painting_many : (r : Loaded) (labels : List ℕ) (n : ℕ) → labels ≡ labels_in r → n ≡ leaders labels r.objects → 254 < n
-    → painting r ≡ held (Reading.refused (refusal 8 0))
+    → painting r ≡ held (Reading.refused (refusal Cause.ManyClasses 0))
 unfolding painting
 painting_many r labels n e f h =
     let g : 254 < leaders (labels_in r) r.objects = rw (← e) (rw (← f) h) in

@@ -1,8 +1,10 @@
 -- What coloring a routine answers: the routine with the color of each object, or refusal 8.
 use Rattle.std.specs.Prelude.{ℕ, ◌+◌, List, [], ◌∷◌, Bool, true, false, length, leb}
-use Rattle.files.specs.declared.Object.{Object}
+use Rattle.numbers.specs.declared.refusal.Cause.{Cause}
+use Rattle.numbers.specs.Refusals.{refusal}
+use Rattle.opcodes.specs.declared.Object.{Object}
 use Rattle.files.specs.Program.{Program}
-use Rattle.files.specs.Reading.{Reading, whole, refusal, on_whole}
+use Rattle.files.specs.Reading.{Reading, whole, on_whole}
 use Rattle.safety.specs.Unsafe.{unsafe_sets}
 use Rattle.coloring.specs.Color.{classes_below, color_of}
 
@@ -26,7 +28,7 @@ abbrev pub few_classes : Program → Bool
 few_classes p = leb (class_count p) 254
 
 abbrev pub classed : Program → Reading
-classed p = elim (few_classes p) [ true ↦ whole p | false ↦ Reading.refused (refusal 8 0) ]
+classed p = elim (few_classes p) [ true ↦ whole p | false ↦ Reading.refused (refusal Cause.ManyClasses 0) ]
 
 unfoldable pub colored : Reading → Reading
 colored r = on_whole (λ p. whole (with_colors (color_in p) p)) (on_whole classed r)

@@ -3,11 +3,13 @@
 --
 -- An object's label is the lowest object of its class so far, and 400 or more where it has no class.
 use Rattle.std.specs.Prelude.{ℕ, zero, suc, ◌+◌, ◌-◌, ◌≤◌, ◌<◌, List, [], ◌∷◌, Bool, true, false, get_or, set, replicate, ltb, eqb}
+use Rattle.numbers.specs.declared.refusal.Cause.{Cause}
+use Rattle.numbers.specs.Refusals.{refusal}
 use Rattle.opcodes.specs.declared.Instr.{Instr}
 use Rattle.files.specs.declared.Line.{Line}
 use Rattle.files.specs.declared.Loaded.{Loaded}
 use Rattle.opcodes.specs.View.{view}
-use Rattle.files.specs.Reading.{Reading, refusal}
+use Rattle.files.specs.Reading.{Reading}
 use Rattle.files.specs.Held.{line, held}
 use Rattle.safety.specs.declared.Nature.{Nature}
 use Rattle.safety.specs.Nature.{nature_of, sizes_in}
@@ -153,6 +155,6 @@ held_with colors l =
 unfoldable pub painting : Loaded → Loaded
 painting l =
     elim (ltb 254 (leaders (labels_in l) l.objects)) [
-      | true ↦ held (Reading.refused (refusal 8 0))
+      | true ↦ held (Reading.refused (refusal Cause.ManyClasses 0))
       | false ↦ held_with (colors_in l) l
     ]

@@ -12,9 +12,11 @@ use mathlib.Core.List.{List, ◌++◌}
 use mathlib.Core.Bool.{Bool, true, false}
 use lib.ListN.{length, take, drop, length-append}
 use lib.Seq.{take_at}
-use Rattle.numbers.specs.declared.Refusal.{Refusal}
+use Rattle.numbers.specs.declared.refusal.Cause.{Cause}
+use Rattle.numbers.specs.Refusals.{refusal_number, refusal}
+use Rattle.numbers.specs.declared.refusal.Refusal.{Refusal}
 use Rattle.files.specs.Program.{Program}
-use Rattle.files.specs.Reading.{Reading, whole, refusal, read_file}
+use Rattle.files.specs.Reading.{Reading, whole, read_file}
 use Rattle.files.proofs.RoundTrip.{one_spelling}
 use Rattle.coloring.specs.Class.{holds}
 use Rattle.coloring.specs.Colored.{color_in}
@@ -85,7 +87,7 @@ controls bytes input limit lent exact = controls_because bytes input limit lent 
 control_one_to_seven : (n : ℕ) → 1 ≤ n → n ≤ 7 → holds control_numbers n ≡ true
 control_one_to_seven = one_to_seven _
 
-not_accepted_listed : (bytes : List ℕ) (q : Refusal) → NotAccepted bytes q → holds control_numbers q.number ≡ true
+not_accepted_listed : (bytes : List ℕ) (q : Refusal) → NotAccepted bytes q → holds control_numbers (refusal_number q.cause) ≡ true
 unfolding holds
 not_accepted_listed bytes q (NotAccepted.unread why) = read_listed control_numbers control_one_to_seven 1 bytes q why
 not_accepted_listed bytes q (NotAccepted.crowded p says many) = refl
@@ -125,7 +127,7 @@ control_is_answered bytes input limit lent = go (exact_lengths lent) refl
     go true e = told bytes input limit lent (instrument bytes 32768) refl e (controls bytes input limit lent e)
     go false e =
         subst (Answered (ControlRefuses bytes lent) control_numbers lent) (sym (rw (e, control)))
-        (Answered.refused (refusal 11 0) (ControlRefuses.lengths e) refl)
+        (Answered.refused (refusal Cause.WrongLength 0) (ControlRefuses.lengths e) refl)
 
 -- ---- what the function's returns need
 
@@ -135,7 +137,7 @@ of memory table room = record { memory = memory; table = table; room = room }
 module _ (bytes input : List ℕ) (limit : ℕ) (memory table room : List ℕ) where
   -- "11 | memory or table not of its exact length"
   pub wrong_lengths : exact_lengths (of memory table room) ≡ false
-      → control bytes input limit (of memory table room) ≡ refuse (of memory table room) (refusal 11 0)
+      → control bytes input limit (of memory table room) ≡ refuse (of memory table room) (refusal Cause.WrongLength 0)
   unfolding control
   wrong_lengths e = simp (e, control)
 

@@ -2,8 +2,10 @@
 -- the plain rule gives. No color and no version 2 stands here; what the table holds afterwards is said
 -- by TableAfter.
 use Rattle.std.specs.Prelude.{ℕ, List, ◌++◌, true, false, length, drop}
+use Rattle.numbers.specs.declared.refusal.Cause.{Cause}
+use Rattle.numbers.specs.Refusals.{refusal}
 use Rattle.files.specs.Program.{Program}
-use Rattle.files.specs.Reading.{Reading, whole, refusal, read_file}
+use Rattle.files.specs.Reading.{Reading, whole, read_file}
 use Rattle.routines.specs.Accepted.{accepted}
 use Rattle.machine.specs.State.{Given}
 use Rattle.machine.specs.Running.{Lent, Answer, refuse, exact_lengths}
@@ -38,5 +40,5 @@ unfoldable pub control : (file input : List ℕ) (limit : ℕ) → Lent → Answ
 control file input limit lent =
     elim (exact_lengths lent) [
       | true ↦ answer_to input limit lent (accepted (read_file 1 file))
-      | false ↦ refuse lent (refusal 11 0)
+      | false ↦ refuse lent (refusal Cause.WrongLength 0)
     ]

@@ -1,8 +1,9 @@
 -- What has to be proved of the controller's answer, as types: the demands of plain/specs/Demands carried to
 -- its one entry point.
 use Rattle.std.specs.Prelude.{ℕ, ◌≡◌, List, [], ◌∷◌, true, false}
-use Rattle.numbers.specs.declared.Refusal.{Refusal}
-use Rattle.files.specs.Reading.{refusal}
+use Rattle.numbers.specs.declared.refusal.Cause.{Cause}
+use Rattle.numbers.specs.Refusals.{refusal}
+use Rattle.numbers.specs.declared.refusal.Refusal.{Refusal}
 use Rattle.instrumenter.specs.Answer.{FileAnswer, instrument}
 use Rattle.machine.specs.Running.{Lent, refuse, exact_lengths, run_file}
 use Rattle.plain.specs.Demands.{NotAccepted, Answered}
@@ -10,7 +11,7 @@ use Rattle.controller.specs.Control.{control}
 
 -- demand 1: why a routine is not run: lengths, or it is not accepted
 pub data ControlRefuses (bytes : List ℕ) (lent : Lent) : Refusal → Type 0 where
-  lengths : exact_lengths lent ≡ false → ControlRefuses bytes lent (refusal 11 0)
+  lengths : exact_lengths lent ≡ false → ControlRefuses bytes lent (refusal Cause.WrongLength 0)
   not_accepted : {q : Refusal} → NotAccepted bytes q → ControlRefuses bytes lent q
 
 abbrev pub control_numbers : List ℕ

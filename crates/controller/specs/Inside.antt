@@ -1,6 +1,6 @@
 -- What a function inside the crate promises; no demand cites it.
-use Rattle.numbers.specs.declared.Refusal.{Refusal}
-use Rattle.files.specs.Reading.{refusal}
+use Rattle.numbers.specs.Refusals.{refusal}
+use Rattle.numbers.specs.declared.refusal.Refusal.{Refusal}
 use Rattle.instrumenter.specs.declared.Instrumented.{Instrumented}
 
 -- the refusal of the instrumenter, where it refused

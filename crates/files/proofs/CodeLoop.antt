@@ -6,11 +6,11 @@ use Prim.Native.Nat.{ℕ, suc, ◌+◌, ◌-◌, ◌<◌, ◌≤◌}
 use native.Mathlib.Nat.{sub-zero}
 use native.Mathlib.Omega.{arith}
 use lib.ListN.{length, set, length-append}
+use Rattle.std.specs.Prelude.{Ok, Err}
 use Rattle.numbers.specs.declared.Cursor.{Cursor}
-use Rattle.numbers.specs.declared.Refusal.{Refusal}
+use Rattle.numbers.specs.declared.refusal.Refusal.{Refusal}
 use Rattle.opcodes.specs.declared.Instr.{Instr}
 use Rattle.files.specs.declared.Line.{Line}
-use Rattle.files.specs.declared.InstrRead.{InstrRead}
 use Rattle.opcodes.specs.Ranges.{Scope}
 use Rattle.files.specs.Held.{filled, line}
 use Rattle.files.proofs.Filled.{map_more}
@@ -18,16 +18,16 @@ use Rattle.files.specs.Parsing.{Parsed, got, refused, read_instr, code_from}
 
 -- one turn
 module _ (left : ℕ) (scope : Scope) (file : List ℕ) (at : ℕ) (done : List Instr) where
-  abbrev turn : InstrRead → Parsed (List Instr)
-  turn (InstrRead.Instr i next) = code_from left scope file next.at (done ++ i ∷ [])
-  turn (InstrRead.Refused q) = refused q
+  abbrev turn : Answer Instr → Parsed (List Instr)
+  turn (Ok (i, next)) = code_from left scope file next.at (done ++ i ∷ [])
+  turn (Err q) = refused q
 
-  pub instr_more : {i : Instr} {next : Cursor} → read_instr scope file at ≡ InstrRead.Instr i next
+  pub instr_more : {i : Instr} {next : Cursor} → read_instr scope file at ≡ Ok (i, next)
       → code_from (suc left) scope file at done ≡ code_from left scope file next.at (done ++ i ∷ [])
   unfolding code_from
   instr_more e = ap turn e
 
-  pub instr_stops : {q : Refusal} → read_instr scope file at ≡ InstrRead.Refused q → code_from (suc left) scope file at done ≡ refused q
+  pub instr_stops : {q : Refusal} → read_instr scope file at ≡ Err q → code_from (suc left) scope file at done ≡ refused q
   unfolding code_from
   instr_stops e = ap turn e
 
@@ -49,7 +49,7 @@ module _ {scope : Scope} {count : ℕ} {file : List ℕ} {from : ℕ} {code : Li
       let one : suc (count - (i + 1)) ≡ count - i = omega arith in
       ap (λ (n : ℕ). code_from n scope file next f.done) one ∙ f.rest
 
-  pub more : i < count → count ≤ 2000 → {instr : Instr} {behind : Cursor} → read_instr scope file next ≡ InstrRead.Instr instr behind
+  pub more : i < count → count ≤ 2000 → {instr : Instr} {behind : Cursor} → read_instr scope file next ≡ Ok (instr, behind)
       → Filling scope count file from (set code i (line instr)) behind.at (i + 1)
   more h few {instr} {behind} e =
       record {
@@ -60,7 +60,7 @@ module _ {scope : Scope} {count : ℕ} {file : List ℕ} {from : ℕ} {code : Li
         held_code = map_more 2000 (line Instr.End) line f.done instr f.held_code f.counted (omega arith);
       }
 
-  pub stops : i < count → {q : Refusal} → read_instr scope file next ≡ InstrRead.Refused q → code_from count scope file from [] ≡ refused q
+  pub stops : i < count → {q : Refusal} → read_instr scope file next ≡ Err q → code_from count scope file from [] ≡ refused q
   stops h e = sym (here h) ∙ instr_stops (count - (i + 1)) scope file next f.done e
 
   pub ends : count ≤ i → code_from count scope file from [] ≡ got f.done next

@@ -16,8 +16,9 @@ use Rattle.opcodes.specs.Table.{parts_of}
 use Rattle.opcodes.specs.Ranges.{Scope, has_group, is_kind}
 use Rattle.opcodes.specs.View.{Aim, in_global, at_temp, Act, View, act, jump, jump_if, store, check, view}
 use Rattle.opcodes.proofs.Bounds.{kind_below, kind_is}
-use Rattle.files.specs.declared.Object.{Object}
-use Rattle.files.specs.Program.{Program, kinds_of}
+use Rattle.opcodes.specs.declared.Object.{Object}
+use Rattle.files.specs.Program.{Program}
+use Rattle.opcodes.specs.Ranges.{kinds_of}
 use Rattle.files.specs.Writing.{good_operand, good_instr, scope_of}
 use Rattle.files.proofs.Tests.{no_test}
 use Rattle.files.proofs.SpelledInstructions.{GoodParts, good_parts_lem}

@@ -6,58 +6,60 @@ use Prim.Native.Nat.{ℕ, ◌+◌, ◌^◌, ◌<◌, ◌≤◌}
 use native.Mathlib.Omega.{arith}
 use lib.ListN.{length, drop}
 use borrow.Author.Tests.{eqb-true}
+use Rattle.std.specs.Prelude.{Ok, Err}
+use Rattle.numbers.specs.Refusals.{refusal}
 use Rattle.numbers.specs.declared.Cursor.{Cursor}
-use Rattle.numbers.specs.declared.Refusal.{Refusal}
-use Rattle.numbers.specs.declared.Read.{Read}
+use Rattle.numbers.specs.declared.refusal.Refusal.{Refusal}
+use Rattle.numbers.specs.Number.{Read}
 use Rattle.numbers.specs.Number.{read_number}
 use Rattle.numbers.proofs.Laws.{spelled_of_read, read_of_spelled}
 use Rattle.files.specs.Program.{most_code}
-use Rattle.files.specs.Reading.{refusal, judge, judged}
+use Rattle.files.specs.Reading.{judge, judged}
 use Rattle.files.specs.Writing.{spell_if}
 use Rattle.files.specs.Parsing.{cursor}
 
 module _ (why : ℕ) (test : ℕ → Bool) (file : List ℕ) (at : ℕ) where
-  pub not_read : {q : Refusal} → read_number file at ≡ Read.Refused q → judged why test file at ≡ Read.Refused q
+  pub not_read : {q : Refusal} → read_number file at ≡ Err q → judged why test file at ≡ Err q
   not_read e = ap (judge why at test) e
 
-  pub failed : {n : ℕ} {next : Cursor} → read_number file at ≡ Read.Number n next → test n ≡ false
-      → judged why test file at ≡ Read.Refused (refusal why at)
+  pub failed : {n : ℕ} {next : Cursor} → read_number file at ≡ Ok (n, next) → test n ≡ false
+      → judged why test file at ≡ Err (refusal why at)
   failed e f = ap (judge why at test) e ∙ simp (f, judge)
 
-  pub passed : {n : ℕ} {next : Cursor} → read_number file at ≡ Read.Number n next → test n ≡ true
-      → judged why test file at ≡ Read.Number n next
+  pub passed : {n : ℕ} {next : Cursor} → read_number file at ≡ Ok (n, next) → test n ≡ true
+      → judged why test file at ≡ Ok (n, next)
   passed e f = ap (judge why at test) e ∙ simp (f, judge)
 
   -- a number that is judged good was read, and passed the test
   pub record Good (n : ℕ) (next : Cursor) : Type 0 where
-    pub read : read_number file at ≡ Read.Number n next
+    pub read : read_number file at ≡ Ok (n, next)
     pub right : test n ≡ true
 
-  pub good : {n : ℕ} {next : Cursor} → judged why test file at ≡ Read.Number n next → Good n next
+  pub good : {n : ℕ} {next : Cursor} → judged why test file at ≡ Ok (n, next) → Good n next
   good {n} {next} e = go (read_number file at) refl
     where
-      kept : (m : ℕ) (c : Cursor) (b : Bool) → test m ≡ b → read_number file at ≡ Read.Number m c → Good n next
+      kept : (m : ℕ) (c : Cursor) (b : Bool) → test m ≡ b → read_number file at ≡ Ok (m, c) → Good n next
       kept m c true t r =
-          let same : Read.Number m c ≡ Read.Number n next = sym (passed r t) ∙ e in
+          let same : Ok (m, c) ≡ Ok (n, next) = sym (passed r t) ∙ e in
           let left : m ≡ n = cc in
           let right : c ≡ next = cc in
           record { read = rw (left, right) at r; right = rw left at t }
       kept m c false t r =
-          let clash : Read.Refused (refusal why at) ≡ Read.Number n next = sym (failed r t) ∙ e in
+          let clash : Err (refusal why at) ≡ Ok (n, next) = sym (failed r t) ∙ e in
           let z : ◌≡◌ {A = ℕ} 0 1 = cc in
           absurd (omega arith)
 
       go : (r : Read) → read_number file at ≡ r → Good n next
-      go (Read.Number m c) r = kept m c (test m) refl r
-      go (Read.Refused q) r =
-          let clash : Read.Refused q ≡ Read.Number n next = sym (not_read r) ∙ e in
+      go (Ok (m, c)) r = kept m c (test m) refl r
+      go (Err q) r =
+          let clash : Err q ≡ Ok (n, next) = sym (not_read r) ∙ e in
           let z : ◌≡◌ {A = ℕ} 0 1 = cc in
           absurd (omega arith)
 
 -- ---- a field: a number that is judged where it stands in the file, and 0 where it does not
 
 abbrev pub field : Bool → (why : ℕ) → (ℕ → Bool) → List ℕ → (at : ℕ) → Read
-field stands why test file at = elim stands [ true ↦ judged why test file at | false ↦ Read.Number 0 (cursor at) ]
+field stands why test file at = elim stands [ true ↦ judged why test file at | false ↦ Ok (0, cursor at) ]
 
 abbrev pub right : Bool → (ℕ → Bool) → ℕ → Bool
 right stands test n = elim stands [ true ↦ test n | false ↦ lib.Dec.eqb n 0 ]
@@ -70,7 +72,7 @@ pub record Field (b : Bool) (test : ℕ → Bool) (file : List ℕ) (at n : ℕ)
   pub small : n < 2 ^ 32
 
 module _ (why : ℕ) (test : ℕ → Bool) (file : List ℕ) (at : ℕ) {n : ℕ} {next : Cursor} where
-  pub field_of_read : (b : Bool) → field b why test file at ≡ Read.Number n next → Field b test file at n next
+  pub field_of_read : (b : Bool) → field b why test file at ≡ Ok (n, next) → Field b test file at n next
   field_of_read true e =
       let g = good why test file at e in
       let s = spelled_of_read file at g.read in
@@ -80,16 +82,16 @@ module _ (why : ℕ) (test : ℕ → Bool) (file : List ℕ) (at : ℕ) {n : ℕ
       let behind : next ≡ cursor at = cc in
       rw (value, behind) (record { good = refl; stands = refl; ends = omega arith; small = omega arith })
 
-  pub read_of_field : (b : Bool) → Field b test file at n next → field b why test file at ≡ Read.Number n next
+  pub read_of_field : (b : Bool) → Field b test file at n next → field b why test file at ≡ Ok (n, next)
   read_of_field true f =
       passed why test file at (read_of_spelled file at (record { stands = f.stands; ends = f.ends; small = f.small })) f.good
   read_of_field false f =
       let value : 0 ≡ n = sym (eqb-true n 0 f.good) in
       let behind : at ≡ next.at = omega (arith, f.ends) in
-      ap₂ (λ (m a : ℕ). Read.Number m (cursor a)) value behind
+      ap₂ (λ (m a : ℕ). Ok (m, cursor a)) value behind
 
   -- where the test keeps a number small, the field is small
-  pub field_small : (b : Bool) (k : ℕ) → ((m : ℕ) → test m ≡ true → m ≤ k) → field b why test file at ≡ Read.Number n next → n ≤ k
+  pub field_small : (b : Bool) (k : ℕ) → ((m : ℕ) → test m ≡ true → m ≤ k) → field b why test file at ≡ Ok (n, next) → n ≤ k
   field_small true k h e = h n (good why test file at e).right
   field_small false k h e = let value : n ≡ 0 = cc in omega arith
 

@@ -10,9 +10,11 @@ use lib.ListN.{length, set, length-append}
 use lib.Seq.{sets, length-sets}
 use lib.Dec.{leb, ltb}
 use borrow.Author.Tests.{leb-true, ltb-true}
+use Rattle.std.specs.Prelude.{Ok, Err}
+use Rattle.numbers.specs.declared.refusal.Cause.{Cause}
 use Rattle.numbers.specs.declared.Cursor.{Cursor}
-use Rattle.numbers.specs.declared.Refusal.{Refusal}
-use Rattle.numbers.specs.declared.Read.{Read}
+use Rattle.numbers.specs.declared.refusal.Refusal.{Refusal}
+use Rattle.numbers.specs.Number.{Read}
 use Rattle.numbers.proofs.Laws.{read_bounds}
 use Rattle.opcodes.specs.Ranges.{within}
 use Rattle.files.specs.Reading.{judged, is_member}
@@ -24,15 +26,15 @@ use Rattle.files.specs.Parsing.{Parsed, got, refused, members_from, after_member
 -- one turn
 module _ (left objects : ℕ) (file : List ℕ) (at low : ℕ) (done : List ℕ) where
   abbrev turn : Read → Parsed (List ℕ)
-  turn (Read.Number n next) = members_from left objects file next.at (n + 1) (done ++ n ∷ [])
-  turn (Read.Refused q) = refused q
+  turn (Ok (n, next)) = members_from left objects file next.at (n + 1) (done ++ n ∷ [])
+  turn (Err q) = refused q
 
-  pub member_more : {n : ℕ} {next : Cursor} → member_at objects low file at ≡ Read.Number n next
+  pub member_more : {n : ℕ} {next : Cursor} → member_at objects low file at ≡ Ok (n, next)
       → members_from (suc left) objects file at low done ≡ members_from left objects file next.at (n + 1) (done ++ n ∷ [])
   unfolding members_from
   member_more e = ap turn e
 
-  pub member_stops : {q : Refusal} → member_at objects low file at ≡ Read.Refused q → members_from (suc left) objects file at low done ≡ refused q
+  pub member_stops : {q : Refusal} → member_at objects low file at ≡ Err q → members_from (suc left) objects file at low done ≡ refused q
   unfolding members_from
   member_stops e = ap turn e
 
@@ -52,10 +54,10 @@ member_right objects low n e = go (leb low n) refl (ltb n objects) refl
     go true p false q = let z : false ≡ true = sym (simp (p, q, is_member)) ∙ e in let w : ◌≡◌ {A = ℕ} 0 1 = cc in absurd (omega arith)
     go false p b q = let z : false ≡ true = sym (simp (p, is_member)) ∙ e in let w : ◌≡◌ {A = ℕ} 0 1 = cc in absurd (omega arith)
 
-pub member : (objects : ℕ) (file : List ℕ) (at low : ℕ) {n : ℕ} {next : Cursor} → member_at objects low file at ≡ Read.Number n next
+pub member : (objects : ℕ) (file : List ℕ) (at low : ℕ) {n : ℕ} {next : Cursor} → member_at objects low file at ≡ Ok (n, next)
     → Member objects file at low n next.at
 member objects file at low {n} e =
-    let g = good 6 (is_member objects low) file at e in
+    let g = good Cause.Field (is_member objects low) file at e in
     let r = member_right objects low n g.right in
     let b = read_bounds file at g.read in
     record { rises = r.0; known = r.1; behind = b.0; inside = b.1 }
@@ -76,26 +78,26 @@ members_bounds (suc left) objects file at low done {all} {next} h e =
         → ((c n : ℕ) → c ≤ length file → members_from left objects file c (n + 1) (done ++ n ∷ []) ≡ got all next
         → (c + length all ≤ next + length (done ++ n ∷ [])) × (next ≤ length file))
         → (at + length all ≤ next + length done) × (next ≤ length file)
-    go (Read.Number n c) r ih =
+    go (Ok (n, c)) r ih =
         let m = member objects file at low r in
         let i = ih c.at n m.inside (sym (member_more left objects file at low done r) ∙ e) in
         let l : length (done ++ n ∷ []) ≡ length done + 1 = length-append done (n ∷ []) in
         (omega (arith, i.0, m.behind), i.1)
-    go (Read.Refused q) r ih =
+    go (Err q) r ih =
         let clash : refused q ≡ got all next = sym (member_stops left objects file at low done r) ∙ e in
         let w : ◌≡◌ {A = ℕ} 0 1 = cc in
         absurd (omega arith)
 
 pub set_bounds : (objects : ℕ) (file : List ℕ) (at : ℕ) {set : List ℕ} {next : ℕ} → read_set objects file at ≡ got set next
     → (at + length set ≤ next) × (next ≤ length file)
-set_bounds objects file at {set} {next} e = go (judged 5 (within 1 objects) file at) refl
+set_bounds objects file at {set} {next} e = go (judged Cause.Count (within 1 objects) file at) refl
   where
-    go : (r : Read) → judged 5 (within 1 objects) file at ≡ r → (at + length set ≤ next) × (next ≤ length file)
-    go (Read.Number n c) r =
-        let b = read_bounds file at (good 5 (within 1 objects) file at r).read in
+    go : (r : Read) → judged Cause.Count (within 1 objects) file at ≡ r → (at + length set ≤ next) × (next ≤ length file)
+    go (Ok (n, c)) r =
+        let b = read_bounds file at (good Cause.Count (within 1 objects) file at r).read in
         let m = members_bounds n objects file c.at 0 [] b.1 (sym (ap (after_member_count objects file) r) ∙ e) in
         (omega (arith, m.0, b.0), m.1)
-    go (Read.Refused q) r =
+    go (Err q) r =
         let clash : refused q ≡ got set next = sym (ap (after_member_count objects file) r) ∙ e in
         let w : ◌≡◌ {A = ℕ} 0 1 = cc in
         absurd (omega arith)
@@ -125,7 +127,7 @@ module _ {objects count : ℕ} {file : List ℕ} {from : ℕ} {before : List ℕ
   pub as_long : length members ≡ length before
   as_long = ap length t.room ∙ length-sets before start t.done
 
-  pub more : i < count → {n : ℕ} {c : Cursor} → member_at objects low file next ≡ Read.Number n c
+  pub more : i < count → {n : ℕ} {c : Cursor} → member_at objects low file next ≡ Ok (n, c)
       → Taking objects count file from before start (set members place n) c.at (n + 1) (place + 1) (i + 1)
   more h {n} {c} e =
       record {
@@ -138,7 +140,7 @@ module _ {objects count : ℕ} {file : List ℕ} {from : ℕ} {before : List ℕ
         behind = omega (arith, t.behind, (member objects file next low e).behind);
       }
 
-  pub stops : i < count → {q : Refusal} → member_at objects low file next ≡ Read.Refused q → members_from count objects file from 0 [] ≡ refused q
+  pub stops : i < count → {q : Refusal} → member_at objects low file next ≡ Err q → members_from count objects file from 0 [] ≡ refused q
   stops h e = sym (here h) ∙ member_stops (count - (i + 1)) objects file next low t.done e
 
   pub ends : count ≤ i → members_from count objects file from 0 [] ≡ got t.done next

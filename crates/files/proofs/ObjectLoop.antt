@@ -6,32 +6,32 @@ use Prim.Native.Nat.{ℕ, suc, ◌+◌, ◌-◌, ◌<◌, ◌≤◌}
 use native.Mathlib.Nat.{sub-zero}
 use native.Mathlib.Omega.{arith}
 use lib.ListN.{length, set, length-append}
+use Rattle.std.specs.Prelude.{Ok, Err}
 use Rattle.numbers.specs.declared.Cursor.{Cursor}
-use Rattle.numbers.specs.declared.Refusal.{Refusal}
-use Rattle.files.specs.declared.Object.{Object}
-use Rattle.files.specs.declared.ObjectRead.{ObjectRead}
+use Rattle.numbers.specs.declared.refusal.Refusal.{Refusal}
+use Rattle.opcodes.specs.declared.Object.{Object}
 use Rattle.files.specs.Held.{filled}
 use Rattle.files.proofs.Filled.{map_more}
 use Rattle.files.specs.Parsing.{Parsed, got, refused, read_object, objects_from}
 
 -- one turn
 module _ (left version : ℕ) (file : List ℕ) (at : ℕ) (done : List Object) where
-  pub object_more : {o : Object} {next : Cursor} → read_object version file at ≡ ObjectRead.Object o next
+  pub object_more : {o : Object} {next : Cursor} → read_object version file at ≡ Ok (o, next)
       → objects_from (suc left) version file at done ≡ objects_from left version file next.at (done ++ o ∷ [])
   unfolding objects_from
   object_more e =
-      ap (λ (r : ObjectRead). elim r as (λ _. Parsed (List Object)) [
-        | ObjectRead.Object o next ↦ objects_from left version file next.at (done ++ o ∷ [])
-        | ObjectRead.Refused q ↦ refused q
+      ap (λ (r : Answer Object). elim r as (λ _. Parsed (List Object)) [
+        | Ok (o, next) ↦ objects_from left version file next.at (done ++ o ∷ [])
+        | Err q ↦ refused q
       ]) e
 
-  pub object_stops : {q : Refusal} → read_object version file at ≡ ObjectRead.Refused q
+  pub object_stops : {q : Refusal} → read_object version file at ≡ Err q
       → objects_from (suc left) version file at done ≡ refused q
   unfolding objects_from
   object_stops e =
-      ap (λ (r : ObjectRead). elim r as (λ _. Parsed (List Object)) [
-        | ObjectRead.Object o next ↦ objects_from left version file next.at (done ++ o ∷ [])
-        | ObjectRead.Refused q ↦ refused q
+      ap (λ (r : Answer Object). elim r as (λ _. Parsed (List Object)) [
+        | Ok (o, next) ↦ objects_from left version file next.at (done ++ o ∷ [])
+        | Err q ↦ refused q
       ]) e
 
 pub record Filling (version count : ℕ) (file : List ℕ) (from : ℕ) (kinds sizes colors : List ℕ) (next i : ℕ) : Type 0 where
@@ -53,7 +53,7 @@ module _ {version count : ℕ} {file : List ℕ} {from : ℕ} {kinds sizes color
   one_left : i < count → count - i ≡ suc (count - (i + 1))
   one_left h = omega arith
 
-  pub more : i < count → count ≤ 400 → {o : Object} {behind : Cursor} → read_object version file next ≡ ObjectRead.Object o behind
+  pub more : i < count → count ≤ 400 → {o : Object} {behind : Cursor} → read_object version file next ≡ Ok (o, behind)
       → Filling version count file from (set kinds i o.kind) (set sizes i o.size) (set colors i o.color) behind.at (i + 1)
   more h few {o} {behind} e =
       record {
@@ -66,7 +66,7 @@ module _ {version count : ℕ} {file : List ℕ} {from : ℕ} {kinds sizes color
         held_colors = map_more 400 0 (λ o. o.color) f.done o f.held_colors f.counted (omega arith);
       }
 
-  pub stops : i < count → {q : Refusal} → read_object version file next ≡ ObjectRead.Refused q
+  pub stops : i < count → {q : Refusal} → read_object version file next ≡ Err q
       → objects_from count version file from [] ≡ refused q
   stops h e =
       sym (ap (λ (n : ℕ). objects_from n version file next f.done) (sym (one_left h)) ∙ f.rest)

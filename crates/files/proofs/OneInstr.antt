@@ -6,16 +6,17 @@ use Prim.Native.Nat.{ℕ, ◌<◌, ◌≤◌}
 use native.Mathlib.Omega.{arith}
 use lib.Dec.{ltb}
 use borrow.Author.Tests.{ltb-true, leb-true, eqb-true}
+use Rattle.std.specs.Prelude.{Ok, Err}
+use Rattle.numbers.specs.declared.refusal.Cause.{Cause}
 use Rattle.numbers.specs.declared.Cursor.{Cursor}
-use Rattle.numbers.specs.declared.Refusal.{Refusal}
-use Rattle.numbers.specs.declared.Read.{Read}
+use Rattle.numbers.specs.declared.refusal.Refusal.{Refusal}
+use Rattle.numbers.specs.Number.{Read}
 use Rattle.opcodes.proofs.Bounds.{within_bounds, kind_below}
 use Rattle.instructions.proofs.Whole.{roof}
 use Rattle.opcodes.specs.declared.Operand.{Operand}
 use Rattle.opcodes.specs.declared.Row.{Row}
 use Rattle.opcodes.specs.declared.Instr.{Instr}
 use Rattle.opcodes.specs.declared.Scope as declared
-use Rattle.files.specs.declared.InstrRead.{InstrRead}
 use Rattle.opcodes.specs.Table.{row_of, operands_of, make}
 use Rattle.opcodes.specs.Ranges.{Scope, has_sets, present, allowed, has_opcode, scope_over}
 use Rattle.files.specs.Reading.{judged}
@@ -24,25 +25,25 @@ use Rattle.files.proofs.Judging.{Field, right, field_of_read}
 use Rattle.files.specs.Parsing.{on_number, operand_at, operands_at, read_instr}
 
 module _ (scope : Scope) (file : List ℕ) where
-  abbrev behind : (op : ℕ) → Cursor → InstrRead
+  abbrev behind : (op : ℕ) → Cursor → Answer Instr
   behind op next = operands_at scope (operands_of (row_of op)) file next (make op)
 
-  pub no_opcode : (at : ℕ) {q : Refusal} → judged 6 (has_opcode scope.version) file at ≡ Read.Refused q → read_instr scope file at ≡ InstrRead.Refused q
+  pub no_opcode : (at : ℕ) {q : Refusal} → judged Cause.Field (has_opcode scope.version) file at ≡ Err q → read_instr scope file at ≡ Err q
   no_opcode at e = ap (λ (r : Read). on_number r behind) e
 
-  pub an_opcode : (at : ℕ) {op : ℕ} {past : Cursor} → judged 6 (has_opcode scope.version) file at ≡ Read.Number op past
+  pub an_opcode : (at : ℕ) {op : ℕ} {past : Cursor} → judged Cause.Field (has_opcode scope.version) file at ≡ Ok (op, past)
       → read_instr scope file at ≡ operands_at scope (operands_of (row_of op)) file past (make op)
   an_opcode at e = ap (λ (r : Read). on_number r behind) e
 
   -- the first of the operands that are left, and those behind it
   module _ (kind : Operand) (kinds : List Operand) (from : Cursor) (k : List ℕ → Instr) where
-    abbrev left : ℕ → Cursor → InstrRead
+    abbrev left : ℕ → Cursor → Answer Instr
     left n next = operands_at scope kinds file next (λ ns. k (n ∷ ns))
 
-    pub no_operand : {q : Refusal} → operand_at scope kind file from.at ≡ Read.Refused q → operands_at scope (kind ∷ kinds) file from k ≡ InstrRead.Refused q
+    pub no_operand : {q : Refusal} → operand_at scope kind file from.at ≡ Err q → operands_at scope (kind ∷ kinds) file from k ≡ Err q
     no_operand e = ap (λ (r : Read). on_number r left) e
 
-    pub an_operand : {n : ℕ} {next : Cursor} → operand_at scope kind file from.at ≡ Read.Number n next
+    pub an_operand : {n : ℕ} {next : Cursor} → operand_at scope kind file from.at ≡ Ok (n, next)
         → operands_at scope (kind ∷ kinds) file from k ≡ operands_at scope kinds file next (λ ns. k (n ∷ ns))
     an_operand e = ap (λ (r : Read). on_number r left) e
 
@@ -58,7 +59,7 @@ right_small true test k n h e = h n e
 right_small false test k n h e = omega (arith, eqb-true n 0 e)
 
 pub operand_fits : (scope : declared.Scope) (kinds : List ℕ) → Small scope kinds → (kind : Operand) (file : List ℕ) (at : ℕ)
-    {n : ℕ} {next : Cursor} → operand_at (scope_over scope kinds) kind file at ≡ Read.Number n next → n < roof kind
+    {n : ℕ} {next : Cursor} → operand_at (scope_over scope kinds) kind file at ≡ Ok (n, next) → n < roof kind
 operand_fits scope kinds small kind file at {n} {next} e =
     go kind (field_of_read 6 (allowed (scope_over scope kinds) kind) file at (present scope.version kind) e)
   where

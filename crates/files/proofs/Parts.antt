@@ -6,8 +6,8 @@ use native.Mathlib.Omega.{arith}
 use lib.ListN.{length}
 use lib.Seq.{sets}
 use Rattle.numbers.specs.declared.Cursor.{Cursor}
-use Rattle.numbers.specs.declared.Refusal.{Refusal}
-use Rattle.files.specs.declared.Object.{Object}
+use Rattle.numbers.specs.declared.refusal.Refusal.{Refusal}
+use Rattle.opcodes.specs.declared.Object.{Object}
 use Rattle.opcodes.specs.declared.Instr.{Instr}
 use Rattle.files.specs.declared.Ended.{Ended}
 use Rattle.files.specs.declared.objects.Objects.{Objects}

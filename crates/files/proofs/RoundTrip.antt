@@ -13,14 +13,17 @@ use lib.ListN.{length, get_or, length-map}
 use lib.Seq.{drop-length}
 use lib.Dec.{eqb, leb}
 use borrow.Author.Tests.{eqb-true, leb-true, le-leb, eq-eqb}
-use Rattle.numbers.specs.declared.Read.{Read}
-use Rattle.numbers.specs.declared.Refusal.{Refusal}
+use Rattle.std.specs.Prelude.{Ok, Err}
+use Rattle.numbers.specs.declared.refusal.Cause.{Cause}
+use Rattle.numbers.specs.Number.{Read}
+use Rattle.numbers.specs.declared.refusal.Refusal.{Refusal}
 use Rattle.numbers.specs.Number.{spell}
-use Rattle.files.specs.declared.Object.{Object}
+use Rattle.opcodes.specs.declared.Object.{Object}
 use Rattle.files.specs.declared.Outcome.{Outcome}
 use Rattle.opcodes.specs.declared.Instr.{Instr}
 use Rattle.opcodes.specs.Ranges.{Scope, has_sets, within}
-use Rattle.files.specs.Program.{Program, most_code, longest, kinds_of}
+use Rattle.files.specs.Program.{Program, most_code, longest}
+use Rattle.opcodes.specs.Ranges.{kinds_of}
 use Rattle.files.specs.Reading.{Reading, whole, judged, read_file}
 use Rattle.files.specs.Writing.{spell_file, spell_all, spell_object, spell_set, spell_sets, spell_instr, every, good_object, rising, good_set, good_sets, good_instr, good_program, scope_of, both, Says}
 use Rattle.files.proofs.Following.{read_by_parts}
@@ -191,10 +194,10 @@ module _ (version : ℕ) (file : List ℕ) (p : Program) (fits : length file ≤
   ended objects sets d e n before j (Parsed.refused q) r w = let z : ◌≡◌ {A = ℕ} 0 1 = cc in absurd (omega arith)
 
   coded : (objects : List Object) (sets : List (List ℕ)) (d : ℕ) → Before objects sets d
-      → (r : Read) → judged 5 (within 1 (most_code version)) file d ≡ r → after_code_count version file objects sets r ≡ whole p → Right
-  coded objects sets d before (Read.Number n c) r w =
+      → (r : Read) → judged Cause.Count (within 1 (most_code version)) file d ≡ r → after_code_count version file objects sets r ≡ whole p → Right
+  coded objects sets d before (Ok (n, c)) r w =
       ended objects sets d c.at n before (judged_of_read 5 _ file d r) (code_from n (scope_for objects sets n) file c.at []) refl w
-  coded objects sets d before (Read.Refused q) r w = let z : ◌≡◌ {A = ℕ} 0 1 = cc in absurd (omega arith)
+  coded objects sets d before (Err q) r w = let z : ◌≡◌ {A = ℕ} 0 1 = cc in absurd (omega arith)
 
   record Early (objects : List Object) (c : ℕ) : Type 0 where
     a : ℕ
@@ -206,8 +209,8 @@ module _ (version : ℕ) (file : List ℕ) (p : Program) (fits : length file ≤
     fine : every (good_object version) objects ≡ true
 
   with_sets : (objects : List Object) (c : ℕ) → has_sets version ≡ true → Early objects c
-      → (r : Read) → judged 5 (within 0 400) file c ≡ r → after_set_count version file objects r ≡ whole p → Right
-  with_sets objects c has early (Read.Number n k) r w = go (sets_from n (length objects) file k.at []) refl w
+      → (r : Read) → judged Cause.Count (within 0 400) file c ≡ r → after_set_count version file objects r ≡ whole p → Right
+  with_sets objects c has early (Ok (n, k)) r w = go (sets_from n (length objects) file k.at []) refl w
     where
       go : (s : Parsed (List (List ℕ))) → sets_from n (length objects) file k.at [] ≡ s → after_sets version file objects s ≡ whole p → Right
       go (got sets next) s w =
@@ -231,9 +234,9 @@ module _ (version : ℕ) (file : List ℕ) (p : Program) (fits : length file ≤
             few = early.few;
             fine = early.fine;
             fine_sets = subst (λ (t : Bool). good_sets t (length objects) sets ≡ true) (sym has) fine_sets;
-          }) (judged 5 (within 1 (most_code version)) file next) refl w
+          }) (judged Cause.Count (within 1 (most_code version)) file next) refl w
       go (Parsed.refused q) s w = let z : ◌≡◌ {A = ℕ} 0 1 = cc in absurd (omega arith)
-  with_sets objects c has early (Read.Refused q) r w = let z : ◌≡◌ {A = ℕ} 0 1 = cc in absurd (omega arith)
+  with_sets objects c has early (Err q) r w = let z : ◌≡◌ {A = ℕ} 0 1 = cc in absurd (omega arith)
 
   no_sets_lem : (objects : List Object) (c : ℕ) → has_sets version ≡ false → Early objects c
       → after_sets version file objects (got [] c) ≡ whole p → Right
@@ -250,11 +253,11 @@ module _ (version : ℕ) (file : List ℕ) (p : Program) (fits : length file ≤
         few = early.few;
         fine = early.fine;
         fine_sets = subst (λ (t : Bool). good_sets t (length objects) [] ≡ true) (sym has) refl;
-      }) (judged 5 (within 1 (most_code version)) file c) refl w
+      }) (judged Cause.Count (within 1 (most_code version)) file c) refl w
 
   listed : (objects : List Object) (c : ℕ) → Early objects c → (t : Bool) → has_sets version ≡ t
-      → elim t as (λ _. Reading) [ true ↦ after_set_count version file objects (judged 5 (within 0 400) file c) | false ↦ after_sets version file objects (got [] c) ] ≡ whole p → Right
-  listed objects c early true has w = with_sets objects c has early (judged 5 (within 0 400) file c) refl w
+      → elim t as (λ _. Reading) [ true ↦ after_set_count version file objects (judged Cause.Count (within 0 400) file c) | false ↦ after_sets version file objects (got [] c) ] ≡ whole p → Right
+  listed objects c early true has w = with_sets objects c has early (judged Cause.Count (within 0 400) file c) refl w
   listed objects c early false has w = no_sets_lem objects c has early w
 
   told : (a b n : ℕ) → Stands file 0 (spell version) a → Judged file a (within 0 400) n b
@@ -274,17 +277,17 @@ module _ (version : ℕ) (file : List ℕ) (p : Program) (fits : length file ≤
       }) (has_sets version) refl w
   told a b n v j (Parsed.refused q) r w = let z : ◌≡◌ {A = ℕ} 0 1 = cc in absurd (omega arith)
 
-  counted : (a : ℕ) → Stands file 0 (spell version) a → (r : Read) → judged 5 (within 0 400) file a ≡ r → after_object_count version file r ≡ whole p → Right
-  counted a v (Read.Number n k) r w = told a k.at n v (judged_of_read 5 (within 0 400) file a r) (objects_from n version file k.at []) refl w
-  counted a v (Read.Refused q) r w = let z : ◌≡◌ {A = ℕ} 0 1 = cc in absurd (omega arith)
+  counted : (a : ℕ) → Stands file 0 (spell version) a → (r : Read) → judged Cause.Count (within 0 400) file a ≡ r → after_object_count version file r ≡ whole p → Right
+  counted a v (Ok (n, k)) r w = told a k.at n v (judged_of_read 5 (within 0 400) file a r) (objects_from n version file k.at []) refl w
+  counted a v (Err q) r w = let z : ◌≡◌ {A = ℕ} 0 1 = cc in absurd (omega arith)
 
-  versioned : (r : Read) → judged 4 (within version version) file 0 ≡ r → after_version version file r ≡ whole p → Right
-  versioned (Read.Number n k) r w =
+  versioned : (r : Read) → judged Cause.Version (within version version) file 0 ≡ r → after_version version file r ≡ whole p → Right
+  versioned (Ok (n, k)) r w =
       let j = judged_of_read 4 (within version version) file 0 r in
       let (low, high) = within_bounds version version n j.passes in
       let same : n ≡ version = omega arith in
-      counted k.at (rw same at j.stood) (judged 5 (within 0 400) file k.at) refl w
-  versioned (Read.Refused q) r w = let z : ◌≡◌ {A = ℕ} 0 1 = cc in absurd (omega arith)
+      counted k.at (rw same at j.stood) (judged Cause.Count (within 0 400) file k.at) refl w
+  versioned (Err q) r w = let z : ◌≡◌ {A = ℕ} 0 1 = cc in absurd (omega arith)
 
 -- what is read is a good program, and the file is byte for byte its spelling
 pub one_spelling : (version : ℕ) (file : List ℕ) (p : Program) → read_file version file ≡ whole p → Says version file p
@@ -294,7 +297,7 @@ one_spelling version file p e = go (leb (length file) (longest version)) refl
     go : (t : Bool) → leb (length file) (longest version) ≡ t → Says version file p
     go true q =
         let fits : length file ≤ longest version = leb-true (length file) (longest version) q in
-        versioned version file p fits (judged 4 (within version version) file 0) refl (sym (read_by_parts file version fits) ∙ e)
+        versioned version file p fits (judged Cause.Version (within version version) file 0) refl (sym (read_by_parts file version fits) ∙ e)
     go false q =
         let long : read_file version file ≡ Reading.refused (record { number = 1; place = 0 }) = rw (q, read_file) in
         let z : ◌≡◌ {A = ℕ} 0 1 = cc in
@@ -333,7 +336,7 @@ module _ (version : ℕ) (small : version < 2 ^ 32) (file : List ℕ) (p : Progr
 
   read_sets : (t : Bool) → Stands file s.c (spell_sets t p.sets) s.d → good_sets t (length p.objects) p.sets ≡ true
       → ◌≡◌ {A = Reading}
-      (elim t [ true ↦ after_set_count version file p.objects (judged 5 (within 0 400) file s.c) | false ↦ after_sets version file p.objects (got [] s.c) ])
+      (elim t [ true ↦ after_set_count version file p.objects (judged Cause.Count (within 0 400) file s.c) | false ↦ after_sets version file p.objects (got [] s.c) ])
       (whole p)
   read_sets true stood good =
       let few : length p.sets ≤ 400 = leb-true (length p.sets) 400 (both_left (leb (length p.sets) 400) (every (good_set (length p.objects)) p.sets) good) in
@@ -355,7 +358,7 @@ module _ (version : ℕ) (small : version < 2 ^ 32) (file : List ℕ) (p : Progr
       no_sets_of [] e = refl
       no_sets_of (x ∷ xs) e = absurd (omega arith)
 
-  read_of_pieces : after_version version file (judged 4 (within version version) file 0) ≡ whole p
+  read_of_pieces : after_version version file (judged Cause.Version (within version version) file 0) ≡ whole p
   read_of_pieces =
       ap (after_version version file)
       (read_of_judged 4 (within version version) file 0

@@ -7,7 +7,7 @@ use native.Mathlib.Nat.{sub-zero}
 use native.Mathlib.Omega.{arith}
 use lib.ListN.{length, set, length-append}
 use lib.Seq.{sets}
-use Rattle.numbers.specs.declared.Refusal.{Refusal}
+use Rattle.numbers.specs.declared.refusal.Refusal.{Refusal}
 use Rattle.files.specs.Held.{filled, ends_from, joined}
 use Rattle.files.proofs.Filled.{filled_more, filled_run, length-filled}
 use Rattle.files.proofs.MemberLoop.{set_bounds}

@@ -7,15 +7,16 @@ use native.Mathlib.Omega.{arith}
 use lib.ListN.{length}
 use lib.Dec.{eqb}
 use borrow.Author.Tests.{eqb-true, leb-true, ltb-true}
+use Rattle.std.specs.Prelude.{Ok, Err}
+use Rattle.numbers.specs.declared.refusal.Cause.{Cause}
 use Rattle.numbers.specs.declared.Cursor.{Cursor}
-use Rattle.numbers.specs.declared.Read.{Read}
+use Rattle.numbers.specs.Number.{Read}
 use Rattle.numbers.specs.Number.{spell}
 use Rattle.opcodes.proofs.Bounds.{within_bounds, opcode_below, kind_below}
 use Rattle.opcodes.proofs.Operands.{each_then}
 use Rattle.instructions.proofs.Parting.{Blank, numbers_parts, parts_make, make_parts}
 use Rattle.opcodes.specs.declared.Operand.{Operand}
 use Rattle.opcodes.specs.declared.Instr.{Instr}
-use Rattle.files.specs.declared.InstrRead.{InstrRead}
 use Rattle.opcodes.specs.declared.Parts.{Parts}
 use Rattle.opcodes.specs.Table.{row_of, operands_of, make, parts_in, numbers_of, parts_of, named, operands_in, Each}
 use Rattle.opcodes.specs.Ranges.{Scope, present, allowed, has_opcode}
@@ -85,7 +86,7 @@ module _ (scope : Scope) (file : List ℕ) where
     passes : good_operands scope (named kinds numbers) ≡ true
 
   found : (kinds : List Operand) (from : Cursor) (k : List ℕ → Instr) (i : Instr) (c : Cursor)
-      → operands_at scope kinds file from k ≡ InstrRead.Instr i c → Found kinds from.at k i c.at
+      → operands_at scope kinds file from k ≡ Ok (i, c) → Found kinds from.at k i c.at
   found [] from k i c e =
       let made : k [] ≡ i = cc in
       let ends : from ≡ c = cc in
@@ -94,10 +95,10 @@ module _ (scope : Scope) (file : List ℕ) where
       go (operand_at scope kind file from.at) refl e (λ n next. found kinds next (λ ns. k (n ∷ ns)) i c)
     where
       go : (r : Read) → operand_at scope kind file from.at ≡ r
-          → on_number r (λ n next. operands_at scope kinds file next (λ ns. k (n ∷ ns))) ≡ InstrRead.Instr i c
-          → ((n : ℕ) (next : Cursor) → operands_at scope kinds file next (λ ns. k (n ∷ ns)) ≡ InstrRead.Instr i c → Found kinds next.at (λ ns. k (n ∷ ns)) i c.at)
+          → on_number r (λ n next. operands_at scope kinds file next (λ ns. k (n ∷ ns))) ≡ Ok (i, c)
+          → ((n : ℕ) (next : Cursor) → operands_at scope kinds file next (λ ns. k (n ∷ ns)) ≡ Ok (i, c) → Found kinds next.at (λ ns. k (n ∷ ns)) i c.at)
           → Found (kind ∷ kinds) from.at k i c.at
-      go (Read.Number n next) r e more =
+      go (Ok (n, next)) r e more =
           let o = optional_of_read (present scope.version kind) 6 (allowed scope kind) file from.at r in
           let f = more n next e in
           record {
@@ -107,7 +108,7 @@ module _ (scope : Scope) (file : List ℕ) where
             stood = stands_append _ _ o.stood f.stood;
             passes = both_true _ _ o.passes f.passes;
           }
-      go (Read.Refused w) r e more = let z : ◌≡◌ {A = ℕ} 0 1 = cc in absurd (omega arith)
+      go (Err w) r e more = let z : ◌≡◌ {A = ℕ} 0 1 = cc in absurd (omega arith)
 
   Right : ℕ → Instr → ℕ → Type 0
   Right at i next = Stands file at (spell_instr scope.version i) next × (good_instr scope i ≡ true)
@@ -127,21 +128,21 @@ module _ (scope : Scope) (file : List ℕ) where
         both_true _ _ o.passes (subst (λ (ns : List ℕ). good_operands scope (named kinds ns) ≡ true) same f.passes),
       ))
 
-  pub instr_of_read : (at : ℕ) {i : Instr} {c : Cursor} → read_instr scope file at ≡ InstrRead.Instr i c
+  pub instr_of_read : (at : ℕ) {i : Instr} {c : Cursor} → read_instr scope file at ≡ Ok (i, c)
       → Stands file at (spell_instr scope.version i) c.at × (good_instr scope i ≡ true)
   unfolding Right
-  instr_of_read at {i} {c} e = go (judged 6 (has_opcode scope.version) file at) refl e
+  instr_of_read at {i} {c} e = go (judged Cause.Field (has_opcode scope.version) file at) refl e
     where
-      go : (r : Read) → judged 6 (has_opcode scope.version) file at ≡ r
-          → on_number r (λ op next. operands_at scope (operands_of (row_of op)) file next (make op)) ≡ InstrRead.Instr i c → Right at i c.at
-      go (Read.Number op n) r e =
+      go : (r : Read) → judged Cause.Field (has_opcode scope.version) file at ≡ r
+          → on_number r (λ op next. operands_at scope (operands_of (row_of op)) file next (make op)) ≡ Ok (i, c) → Right at i c.at
+      go (Ok (op, n)) r e =
           found_right at op n.at c.at (judged_of_read 6 _ file at r) (found (operands_of (row_of op)) n (make op) i c e)
-      go (Read.Refused w) r e = let z : ◌≡◌ {A = ℕ} 0 1 = cc in absurd (omega arith)
+      go (Err w) r e = let z : ◌≡◌ {A = ℕ} 0 1 = cc in absurd (omega arith)
 
 -- an operand that stands there and is good is read
 read_of_operand : (scope : Scope) → Bounded scope → (file : List ℕ) (kind : Operand) (at n next : ℕ)
     → Stands file at (spell_if (present scope.version kind) n) next → good_operand scope kind n ≡ true
-    → operand_at scope kind file at ≡ Read.Number n (cursor next)
+    → operand_at scope kind file at ≡ Ok (n, cursor next)
 read_of_operand scope bounded file kind at n next s g =
     read_of_optional (present scope.version kind) 6 (allowed scope kind) file at
     (record { stood = s; passes = g; small = small_of_good scope bounded kind n g })
@@ -149,10 +150,10 @@ read_of_operand scope bounded file kind at n next s g =
 -- operands that stand there and are good are read
 read_of_operands : (scope : Scope) → Bounded scope → (file : List ℕ) (kinds : List Operand) (ns : List ℕ) (from : Cursor) (k : List ℕ → Instr) (next : ℕ)
     → length kinds ≡ length ns → Stands file from.at (spell_operands scope.version (named kinds ns)) next
-    → Each (Good scope) (named kinds ns) → operands_at scope kinds file from k ≡ InstrRead.Instr (k ns) (cursor next)
+    → Each (Good scope) (named kinds ns) → operands_at scope kinds file from k ≡ Ok (k ns, cursor next)
 read_of_operands scope bounded file [] [] from k next e s g =
     let same : from.at ≡ next = omega (arith, s.ends) in
-    ap (λ (m : ℕ). InstrRead.Instr (k []) (cursor m)) same
+    ap (λ (m : ℕ). Ok (k [], cursor m)) same
 read_of_operands scope bounded file [] (n ∷ ns) from k next e s g = absurd (omega arith)
 read_of_operands scope bounded file (kind ∷ kinds) [] from k next e s g = absurd (omega arith)
 read_of_operands scope bounded file (kind ∷ kinds) (n ∷ ns) from k next e s g =
@@ -176,7 +177,7 @@ good_parts_lem scope p g =
 -- a good instruction whose spelling stands there is read
 pub read_of_instr : (scope : Scope) (file : List ℕ) (at : ℕ) → Bounded scope → (i : Instr) (next : ℕ)
     → Stands file at (spell_instr scope.version i) next → good_instr scope i ≡ true
-    → read_instr scope file at ≡ InstrRead.Instr i (cursor next)
+    → read_instr scope file at ≡ Ok (i, cursor next)
 read_of_instr scope file at bounded i next s g =
     let p : Parts = parts_of i in
     let (s₁, s₂) = stands_split (spell p.op) _ s in
@@ -185,4 +186,4 @@ read_of_instr scope file at bounded i next s g =
     (read_of_judged 6 (has_opcode scope.version) file at
     (record { stood = s₁; passes = good.opcode; small = omega (arith, opcode_below scope.version p.op good.opcode) }))
     ∙ read_of_operands scope bounded file (operands_of (row_of p.op)) (numbers_of p) _ (make p.op) next refl s₂ good.operands
-    ∙ ap (λ (j : Instr). InstrRead.Instr j (cursor next)) (make_parts i)
+    ∙ ap (λ (j : Instr). Ok (j, cursor next)) (make_parts i)

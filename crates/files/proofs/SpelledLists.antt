@@ -9,12 +9,12 @@ use native.Mathlib.Omega.{arith}
 use lib.ListN.{length}
 use lib.Dec.{leb, ltb}
 use borrow.Author.Tests.{ltb-true}
-use Rattle.numbers.specs.declared.Read.{Read}
+use Rattle.std.specs.Prelude.{Ok, Err}
+use Rattle.numbers.specs.declared.refusal.Cause.{Cause}
+use Rattle.numbers.specs.Number.{Read}
 use Rattle.numbers.specs.Number.{spell}
-use Rattle.files.specs.declared.Object.{Object}
-use Rattle.files.specs.declared.ObjectRead.{ObjectRead}
+use Rattle.opcodes.specs.declared.Object.{Object}
 use Rattle.opcodes.specs.declared.Instr.{Instr}
-use Rattle.files.specs.declared.InstrRead.{InstrRead}
 use Rattle.opcodes.specs.Ranges.{Scope, within}
 use Rattle.files.specs.Reading.{judged}
 use Rattle.files.specs.Writing.{spell_all, spell_object, spell_set, spell_instr, every, good_object, good_set, good_instr, rising, both}
@@ -81,13 +81,13 @@ module _ {A : Type 0} (one : ℕ → Parsed A) (spelling : A → List ℕ) (good
 
 -- ---- objects, sets and instructions are read so
 
-abbrev object_read : ObjectRead → Parsed Object
-object_read (ObjectRead.Object o c) = got o c.at
-object_read (ObjectRead.Refused q) = Parsed.refused q
+abbrev object_read : Answer Object → Parsed Object
+object_read (Ok (o, c)) = got o c.at
+object_read (Err q) = Parsed.refused q
 
-abbrev instr_read : InstrRead → Parsed Instr
-instr_read (InstrRead.Instr i c) = got i c.at
-instr_read (InstrRead.Refused q) = Parsed.refused q
+abbrev instr_read : Answer Instr → Parsed Instr
+instr_read (Ok (i, c)) = got i c.at
+instr_read (Err q) = Parsed.refused q
 
 objects_many : (left version : ℕ) (file : List ℕ) (at : ℕ) (done : List Object)
     → objects_from left version file at done ≡ many (λ k. object_read (read_object version file k)) left at done
@@ -95,11 +95,11 @@ unfolding objects_from many
 objects_many zero version file at done = refl
 objects_many (suc left) version file at done = go (read_object version file at) (λ k os. objects_many left version file k os)
   where
-    go : (r : ObjectRead) → ((k : ℕ) (os : List Object) → objects_from left version file k os ≡ many (λ j. object_read (read_object version file j)) left k os)
-        → ◌≡◌ {A = Parsed (List Object)} (elim r as (λ _. Parsed (List Object)) [ ObjectRead.Object o next ↦ objects_from left version file next.at (done ++ o ∷ []) | ObjectRead.Refused q ↦ Parsed.refused q ])
+    go : (r : Answer Object) → ((k : ℕ) (os : List Object) → objects_from left version file k os ≡ many (λ j. object_read (read_object version file j)) left k os)
+        → ◌≡◌ {A = Parsed (List Object)} (elim r as (λ _. Parsed (List Object)) [ Ok (o, next) ↦ objects_from left version file next.at (done ++ o ∷ []) | Err q ↦ Parsed.refused q ])
         (elim (object_read r) as (λ _. Parsed (List Object)) [ got o next ↦ many (λ j. object_read (read_object version file j)) left next (done ++ o ∷ []) | Parsed.refused q ↦ Parsed.refused q ])
-    go (ObjectRead.Object o c) ih = ih c.at (done ++ o ∷ [])
-    go (ObjectRead.Refused q) ih = refl
+    go (Ok (o, c)) ih = ih c.at (done ++ o ∷ [])
+    go (Err q) ih = refl
 
 code_many : (left : ℕ) (scope : Scope) (file : List ℕ) (at : ℕ) (done : List Instr)
     → code_from left scope file at done ≡ many (λ k. instr_read (read_instr scope file k)) left at done
@@ -107,11 +107,11 @@ unfolding code_from many
 code_many zero scope file at done = refl
 code_many (suc left) scope file at done = go (read_instr scope file at) (λ k is. code_many left scope file k is)
   where
-    go : (r : InstrRead) → ((k : ℕ) (is : List Instr) → code_from left scope file k is ≡ many (λ j. instr_read (read_instr scope file j)) left k is)
-        → ◌≡◌ {A = Parsed (List Instr)} (elim r as (λ _. Parsed (List Instr)) [ InstrRead.Instr i next ↦ code_from left scope file next.at (done ++ i ∷ []) | InstrRead.Refused q ↦ Parsed.refused q ])
+    go : (r : Answer Instr) → ((k : ℕ) (is : List Instr) → code_from left scope file k is ≡ many (λ j. instr_read (read_instr scope file j)) left k is)
+        → ◌≡◌ {A = Parsed (List Instr)} (elim r as (λ _. Parsed (List Instr)) [ Ok (i, next) ↦ code_from left scope file next.at (done ++ i ∷ []) | Err q ↦ Parsed.refused q ])
         (elim (instr_read r) as (λ _. Parsed (List Instr)) [ got i next ↦ many (λ j. instr_read (read_instr scope file j)) left next (done ++ i ∷ []) | Parsed.refused q ↦ Parsed.refused q ])
-    go (InstrRead.Instr i c) ih = ih c.at (done ++ i ∷ [])
-    go (InstrRead.Refused q) ih = refl
+    go (Ok (i, c)) ih = ih c.at (done ++ i ∷ [])
+    go (Err q) ih = refl
 
 sets_many : (left objects : ℕ) (file : List ℕ) (at : ℕ) (done : List (List ℕ)) → sets_from left objects file at done ≡ many (read_set objects file) left at done
 unfolding sets_from many
@@ -144,13 +144,13 @@ members_of_read zero objects file at low next done all e =
     let here : at ≡ next = cc in
     record { things = []; whole = sym same ∙ sym (append-nil done); number = refl; stood = rw (← here) (stands_nil file at); passes = refl }
 members_of_read (suc left) objects file at low next done all e =
-    go (λ n mid. members_of_read left objects file mid (n + 1) next (done ++ n ∷ []) all) (judged 6 (member_test objects low) file at) refl e
+    go (λ n mid. members_of_read left objects file mid (n + 1) next (done ++ n ∷ []) all) (judged Cause.Field (member_test objects low) file at) refl e
   where
     go : ((n mid : ℕ) → members_from left objects file mid (n + 1) (done ++ n ∷ []) ≡ got all next → Members objects file mid left (n + 1) (done ++ n ∷ []) all next)
-        → (r : Read) → judged 6 (member_test objects low) file at ≡ r
-        → elim r as (λ _. Parsed (List ℕ)) [ Read.Number n c ↦ members_from left objects file c.at (n + 1) (done ++ n ∷ []) | Read.Refused q ↦ Parsed.refused q ] ≡ got all next
+        → (r : Read) → judged Cause.Field (member_test objects low) file at ≡ r
+        → elim r as (λ _. Parsed (List ℕ)) [ Ok (n, c) ↦ members_from left objects file c.at (n + 1) (done ++ n ∷ []) | Err q ↦ Parsed.refused q ] ≡ got all next
         → Members objects file at (suc left) low done all next
-    go ih (Read.Number n c) r e =
+    go ih (Ok (n, c)) r e =
         let s = ih n c.at e in
         let j = judged_of_read 6 (member_test objects low) file at r in
         record {
@@ -160,7 +160,7 @@ members_of_read (suc left) objects file at low next done all e =
           stood = stands_append (spell n) (spell_all spell s.things) j.stood s.stood;
           passes = simp (both_is, j.passes, rising) s.passes;
         }
-    go ih (Read.Refused q) r e = let z : ◌≡◌ {A = ℕ} 0 1 = cc in absurd (omega arith)
+    go ih (Err q) r e = let z : ◌≡◌ {A = ℕ} 0 1 = cc in absurd (omega arith)
 
 read_of_members : (objects : ℕ) → objects < 2 ^ 32 → (file : List ℕ) (at low next : ℕ) (done things : List ℕ)
     → Stands file at (spell_all spell things) next → rising objects low things ≡ true
@@ -180,7 +180,7 @@ read_of_members objects few file at low next done (n ∷ things) s g =
         → (rising objects (n + 1) things ≡ true → members_from (length things) objects file (at + length (spell n)) (n + 1) (done ++ n ∷ []) ≡ got ((done ++ n ∷ []) ++ things) next)
         → members_from (suc (length things)) objects file at low done ≡ got (done ++ n ∷ things) next
     go true p g ih =
-        let read : judged 6 (member_test objects low) file at ≡ Read.Number n (cursor (at + length (spell n))) =
+        let read : judged Cause.Field (member_test objects low) file at ≡ Ok (n, cursor (at + length (spell n))) =
         read_of_judged 6 (member_test objects low) file at
         (record { stood = split.0; passes = sym (both_is (leb low n) (ltb n objects)) ∙ p; small = omega (arith, ltb-true n objects (both_right (leb low n) (ltb n objects) p)) }) in
         rw (read, members_from) (ih g ∙ ap (λ (l : List ℕ). got l next) (append_assoc done (n ∷ []) things))
@@ -188,11 +188,11 @@ read_of_members objects few file at low next done (n ∷ things) s g =
 
 set_of_read : (objects : ℕ) (file : List ℕ) (at next : ℕ) (s : List ℕ) → read_set objects file at ≡ got s next
     → Stands file at (spell_set s) next × (good_set objects s ≡ true)
-set_of_read objects file at next s e = go (judged 5 (within 1 objects) file at) refl e
+set_of_read objects file at next s e = go (judged Cause.Count (within 1 objects) file at) refl e
   where
-    go : (r : Read) → judged 5 (within 1 objects) file at ≡ r → after_member_count objects file r ≡ got s next
+    go : (r : Read) → judged Cause.Count (within 1 objects) file at ≡ r → after_member_count objects file r ≡ got s next
         → Stands file at (spell_set s) next × (good_set objects s ≡ true)
-    go (Read.Number n c) r e =
+    go (Ok (n, c)) r e =
         let j = judged_of_read 5 (within 1 objects) file at r in
         let m = members_of_read n objects file c.at 0 next [] s e in
         let same : s ≡ m.things = m.whole in
@@ -200,7 +200,7 @@ set_of_read objects file at next s e = go (judged 5 (within 1 objects) file at) 
           stands_append {mid = c.at} (spell (length s)) (spell_all spell s) (rw long j.stood) (rw same m.stood),
           both_true (within 1 objects (length s)) (rising objects 0 s) (rw long j.passes) (rw same m.passes),
         )
-    go (Read.Refused q) r e = let z : ◌≡◌ {A = ℕ} 0 1 = cc in absurd (omega arith)
+    go (Err q) r e = let z : ◌≡◌ {A = ℕ} 0 1 = cc in absurd (omega arith)
 
 read_of_set : (objects : ℕ) → objects < 2 ^ 32 → (file : List ℕ) (at next : ℕ) (s : List ℕ)
     → Stands file at (spell_set s) next → good_set objects s ≡ true → read_set objects file at ≡ got s next
@@ -223,12 +223,12 @@ objects_of_read left version file at next os e =
     down : (at next : ℕ) (o : Object) → object_read (read_object version file at) ≡ got o next → Stands file at (spell_object version o) next × (good_object version o ≡ true)
     down at next o e = go (read_object version file at) refl e
       where
-        go : (r : ObjectRead) → read_object version file at ≡ r → object_read r ≡ got o next → Stands file at (spell_object version o) next × (good_object version o ≡ true)
-        go (ObjectRead.Object x c) r e =
+        go : (r : Answer Object) → read_object version file at ≡ r → object_read r ≡ got o next → Stands file at (spell_object version o) next × (good_object version o ≡ true)
+        go (Ok (x, c)) r e =
             let same : x ≡ o = cc in
             let ends : c.at ≡ next = cc in
             subst₂ (λ (y : Object) (n : ℕ). Stands file at (spell_object version y) n × (good_object version y ≡ true)) same ends (object_of_read version file at r)
-        go (ObjectRead.Refused q) r e = let z : ◌≡◌ {A = ℕ} 0 1 = cc in absurd (omega arith)
+        go (Err q) r e = let z : ◌≡◌ {A = ℕ} 0 1 = cc in absurd (omega arith)
 
 pub read_of_objects : (version : ℕ) (file : List ℕ) (at next : ℕ) (os : List Object) → Stands file at (spell_all (spell_object version) os) next → every (good_object version) os ≡ true
     → objects_from (length os) version file at [] ≡ got os next
@@ -246,12 +246,12 @@ code_of_read left scope file at next is e =
     down : (at next : ℕ) (i : Instr) → instr_read (read_instr scope file at) ≡ got i next → Stands file at (spell_instr scope.version i) next × (good_instr scope i ≡ true)
     down at next i e = go (read_instr scope file at) refl e
       where
-        go : (r : InstrRead) → read_instr scope file at ≡ r → instr_read r ≡ got i next → Stands file at (spell_instr scope.version i) next × (good_instr scope i ≡ true)
-        go (InstrRead.Instr x c) r e =
+        go : (r : Answer Instr) → read_instr scope file at ≡ r → instr_read r ≡ got i next → Stands file at (spell_instr scope.version i) next × (good_instr scope i ≡ true)
+        go (Ok (x, c)) r e =
             let same : x ≡ i = cc in
             let ends : c.at ≡ next = cc in
             subst₂ (λ (y : Instr) (n : ℕ). Stands file at (spell_instr scope.version y) n × (good_instr scope y ≡ true)) same ends (instr_of_read scope file at r)
-        go (InstrRead.Refused q) r e = let z : ◌≡◌ {A = ℕ} 0 1 = cc in absurd (omega arith)
+        go (Err q) r e = let z : ◌≡◌ {A = ℕ} 0 1 = cc in absurd (omega arith)
 
 pub read_of_code : (scope : Scope) → Bounded scope → (file : List ℕ) (at next : ℕ) (is : List Instr) → Stands file at (spell_all (spell_instr scope.version) is) next → every (good_instr scope) is ≡ true
     → code_from (length is) scope file at [] ≡ got is next

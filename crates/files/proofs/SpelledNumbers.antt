@@ -11,11 +11,13 @@ use lib.ListN.{length, drop, length-append}
 use lib.Seq.{drop-drop, drop-append_seam}
 use lib.Dec.{eqb}
 use borrow.Author.Tests.{eqb-true}
+use Rattle.std.specs.Prelude.{Ok, Err}
+use Rattle.numbers.specs.Refusals.{refusal}
 use Rattle.numbers.specs.declared.Cursor.{Cursor}
-use Rattle.numbers.specs.declared.Read.{Read}
+use Rattle.numbers.specs.Number.{Read}
 use Rattle.numbers.specs.Number.{spell, read_number}
 use Rattle.numbers.proofs.Laws.{spelled_of_read, read_of_spelled}
-use Rattle.files.specs.Reading.{judge, judged, refusal}
+use Rattle.files.specs.Reading.{judge, judged}
 use Rattle.files.specs.Writing.{spell_if}
 use Rattle.files.specs.Parsing.{cursor}
 
@@ -51,11 +53,11 @@ pub record Judged (file : List ℕ) (at : ℕ) (test : ℕ → Bool) (n next : �
   pub passes : test n ≡ true
   pub small : n < 2 ^ 32
 
-pub judged_of_read : (why : ℕ) (test : ℕ → Bool) (file : List ℕ) (at : ℕ) {n : ℕ} {c : Cursor} → judged why test file at ≡ Read.Number n c → Judged file at test n c.at
+pub judged_of_read : (why : ℕ) (test : ℕ → Bool) (file : List ℕ) (at : ℕ) {n : ℕ} {c : Cursor} → judged why test file at ≡ Ok (n, c) → Judged file at test n c.at
 judged_of_read why test file at {n} {c} e = go (read_number file at) refl e
   where
-    tested : (m : ℕ) (d : Cursor) (b : Bool) → test m ≡ b → read_number file at ≡ Read.Number m d
-        → elim b as (λ _. Read) [ true ↦ Read.Number m d | false ↦ Read.Refused (refusal why at) ] ≡ Read.Number n c → Judged file at test n c.at
+    tested : (m : ℕ) (d : Cursor) (b : Bool) → test m ≡ b → read_number file at ≡ Ok (m, d)
+        → elim b as (λ _. Read) [ true ↦ Ok (m, d) | false ↦ Err (refusal why at) ] ≡ Ok (n, c) → Judged file at test n c.at
     tested m d true t r e =
         let same : m ≡ n = cc in
         let ends : d ≡ c = cc in
@@ -63,19 +65,19 @@ judged_of_read why test file at {n} {c} e = go (read_number file at) refl e
         record { stood = record { stands = s.stands; ends = s.ends }; passes = rw (← same) t; small = s.small }
     tested m d false t r e = let z : ◌≡◌ {A = ℕ} 0 1 = cc in absurd (omega arith)
 
-    go : (r : Read) → read_number file at ≡ r → judge why at test r ≡ Read.Number n c → Judged file at test n c.at
-    go (Read.Number m d) r e = tested m d (test m) refl r e
-    go (Read.Refused q) r e = let z : ◌≡◌ {A = ℕ} 0 1 = cc in absurd (omega arith)
+    go : (r : Read) → read_number file at ≡ r → judge why at test r ≡ Ok (n, c) → Judged file at test n c.at
+    go (Ok (m, d)) r e = tested m d (test m) refl r e
+    go (Err q) r e = let z : ◌≡◌ {A = ℕ} 0 1 = cc in absurd (omega arith)
 
-pub read_of_judged : (why : ℕ) (test : ℕ → Bool) (file : List ℕ) (at : ℕ) {n next : ℕ} → Judged file at test n next → judged why test file at ≡ Read.Number n (cursor next)
+pub read_of_judged : (why : ℕ) (test : ℕ → Bool) (file : List ℕ) (at : ℕ) {n next : ℕ} → Judged file at test n next → judged why test file at ≡ Ok (n, cursor next)
 read_of_judged why test file at {n} {next} j =
-    let r : read_number file at ≡ Read.Number n (cursor next) = read_of_spelled file at (record { stands = j.stood.stands; ends = j.stood.ends; small = j.small }) in
+    let r : read_number file at ≡ Ok (n, cursor next) = read_of_spelled file at (record { stands = j.stood.stands; ends = j.stood.ends; small = j.small }) in
     ap (judge why at test) r ∙ simp (j.passes, judge)
 
 -- ---- a number that stands in the file or does not
 
 abbrev pub optional : Bool → (why : ℕ) → (ℕ → Bool) → List ℕ → (at : ℕ) → Read
-optional b why test file at = elim b [ true ↦ judged why test file at | false ↦ Read.Number 0 (cursor at) ]
+optional b why test file at = elim b [ true ↦ judged why test file at | false ↦ Ok (0, cursor at) ]
 
 abbrev pub good_if : Bool → (ℕ → Bool) → ℕ → Bool
 good_if b test n = elim b [ true ↦ test n | false ↦ eqb n 0 ]
@@ -86,7 +88,7 @@ pub record Optional (file : List ℕ) (at : ℕ) (b : Bool) (test : ℕ → Bool
   pub small : n < 2 ^ 32
 
 pub optional_of_read : (b : Bool) (why : ℕ) (test : ℕ → Bool) (file : List ℕ) (at : ℕ) {n : ℕ} {c : Cursor}
-    → optional b why test file at ≡ Read.Number n c → Optional file at b test n c.at
+    → optional b why test file at ≡ Ok (n, c) → Optional file at b test n c.at
 optional_of_read true why test file at e =
     let j = judged_of_read why test file at e in
     record { stood = j.stood; passes = j.passes; small = j.small }
@@ -97,7 +99,7 @@ optional_of_read false why test file at {n} {c} e =
 
 -- a test passes only numbers of 32 bits, where that is asked
 pub read_of_optional : (b : Bool) (why : ℕ) (test : ℕ → Bool) (file : List ℕ) (at : ℕ) {n next : ℕ}
-    → Optional file at b test n next → optional b why test file at ≡ Read.Number n (cursor next)
+    → Optional file at b test n next → optional b why test file at ≡ Ok (n, cursor next)
 read_of_optional true why test file at j =
     read_of_judged why test file at (record { stood = j.stood; passes = j.passes; small = j.small })
 read_of_optional false why test file at {n} {next} j =

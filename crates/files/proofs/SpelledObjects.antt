@@ -7,12 +7,13 @@ use native.Mathlib.Omega.{arith}
 use lib.ListN.{length}
 use lib.Dec.{eqb}
 use borrow.Author.Tests.{eqb-true, eqb-false, eq-eqb}
+use Rattle.std.specs.Prelude.{Ok, Err}
+use Rattle.numbers.specs.declared.refusal.Cause.{Cause}
 use Rattle.numbers.specs.declared.Cursor.{Cursor}
-use Rattle.numbers.specs.declared.Read.{Read}
+use Rattle.numbers.specs.Number.{Read}
 use Rattle.numbers.specs.Number.{spell}
 use Rattle.opcodes.proofs.Bounds.{within_bounds, within_true, color_small}
-use Rattle.files.specs.declared.Object.{Object}
-use Rattle.files.specs.declared.ObjectRead.{ObjectRead}
+use Rattle.opcodes.specs.declared.Object.{Object}
 use Rattle.opcodes.specs.Ranges.{within, is_color}
 use Rattle.files.specs.Program.{has_colors}
 use Rattle.files.specs.Reading.{judged}
@@ -51,9 +52,9 @@ sized_of kind size g = go (eqb kind 0) refl g
         let empty : size ≡ 0 = eqb-true size 0 (both_right (eqb kind 1) (eqb size 0) g) in
         record { kinds = within_true 0 1 kind (omega arith) (omega arith); sizes = simp (p, good_if) (both_right (eqb kind 1) (eqb size 0) g); kind_most = omega arith; size_most = omega arith }
 
-pub object_of_read : (version : ℕ) (file : List ℕ) (at : ℕ) {o : Object} {c : Cursor} → read_object version file at ≡ ObjectRead.Object o c
+pub object_of_read : (version : ℕ) (file : List ℕ) (at : ℕ) {o : Object} {c : Cursor} → read_object version file at ≡ Ok (o, c)
     → Stands file at (spell_object version o) c.at × (good_object version o ≡ true)
-object_of_read version file at {o} {c} e = kinds (judged 6 (within 0 1) file at) refl e
+object_of_read version file at {o} {c} e = kinds (judged Cause.Field (within 0 1) file at) refl e
   where
     sized : (kind size : ℕ) → within 0 1 kind ≡ true → elim (eqb kind 0) as (λ _. Bool) [ true ↦ within 1 4096 size | false ↦ eqb size 0 ] ≡ true → good_size kind size ≡ true
     sized kind size k s = go (eqb kind 0) refl s
@@ -64,9 +65,9 @@ object_of_read version file at {o} {c} e = kinds (judged 6 (within 0 1) file at)
         go false p s = both_true (eqb kind 1) (eqb size 0) (eq-eqb kind 1 (omega (arith, eqb-false kind 0 p, (within_bounds 0 1 kind k).1))) s
 
     colors : (kind size mid last : ℕ) → Judged file at (within 0 1) kind mid → Optional file mid (eqb kind 0) (within 1 4096) size last
-        → (r : Read) → color_at version file last ≡ r → after_color kind size r ≡ ObjectRead.Object o c
+        → (r : Read) → color_at version file last ≡ r → after_color kind size r ≡ Ok (o, c)
         → Stands file at (spell_object version o) c.at × (good_object version o ≡ true)
-    colors kind size mid last k s (Read.Number color d) r e =
+    colors kind size mid last k s (Ok (color, d)) r e =
         let made : record { kind = kind; size = size; color = color } ≡ o = cc in
         let ends : d ≡ c = cc in
         let t = optional_of_read (has_colors version) 6 is_color file last r in
@@ -76,22 +77,22 @@ object_of_read version file at {o} {c} e = kinds (judged 6 (within 0 1) file at)
               (stands_append (spell_if (eqb kind 0) size) (spell_if (has_colors version) color) s.stood t.stood),
           both_true (good_size kind size) _ (sized kind size k.passes s.passes) t.passes,
         ))
-    colors kind size mid last k s (Read.Refused q) r e = let z : ◌≡◌ {A = ℕ} 0 1 = cc in absurd (omega arith)
+    colors kind size mid last k s (Err q) r e = let z : ◌≡◌ {A = ℕ} 0 1 = cc in absurd (omega arith)
 
-    sizes : (kind mid : ℕ) → Judged file at (within 0 1) kind mid → (r : Read) → size_at file kind mid ≡ r → after_size version file kind r ≡ ObjectRead.Object o c
+    sizes : (kind mid : ℕ) → Judged file at (within 0 1) kind mid → (r : Read) → size_at file kind mid ≡ r → after_size version file kind r ≡ Ok (o, c)
         → Stands file at (spell_object version o) c.at × (good_object version o ≡ true)
-    sizes kind mid k (Read.Number size d) r e =
+    sizes kind mid k (Ok (size, d)) r e =
         colors kind size mid d.at k (optional_of_read (eqb kind 0) 6 (within 1 4096) file mid r) (color_at version file d.at) refl e
-    sizes kind mid k (Read.Refused q) r e = let z : ◌≡◌ {A = ℕ} 0 1 = cc in absurd (omega arith)
+    sizes kind mid k (Err q) r e = let z : ◌≡◌ {A = ℕ} 0 1 = cc in absurd (omega arith)
 
-    kinds : (r : Read) → judged 6 (within 0 1) file at ≡ r → after_kind version file r ≡ ObjectRead.Object o c
+    kinds : (r : Read) → judged Cause.Field (within 0 1) file at ≡ r → after_kind version file r ≡ Ok (o, c)
         → Stands file at (spell_object version o) c.at × (good_object version o ≡ true)
-    kinds (Read.Number kind d) r e = sizes kind d.at (judged_of_read 6 (within 0 1) file at r) (size_at file kind d.at) refl e
-    kinds (Read.Refused q) r e = let z : ◌≡◌ {A = ℕ} 0 1 = cc in absurd (omega arith)
+    kinds (Ok (kind, d)) r e = sizes kind d.at (judged_of_read 6 (within 0 1) file at r) (size_at file kind d.at) refl e
+    kinds (Err q) r e = let z : ◌≡◌ {A = ℕ} 0 1 = cc in absurd (omega arith)
 
 -- a good object whose spelling stands there is read
 pub read_of_object : (version : ℕ) (file : List ℕ) (at next : ℕ) (o : Object) → Stands file at (spell_object version o) next → good_object version o ≡ true
-    → read_object version file at ≡ ObjectRead.Object o (cursor next)
+    → read_object version file at ≡ Ok (o, cursor next)
 read_of_object version file at next o s g =
     let kind = o.kind in
     let mid : ℕ = at + length (spell kind) in

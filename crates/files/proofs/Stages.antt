@@ -5,10 +5,13 @@ use mathlib.Core.Bool.{Bool, true, false}
 use Prim.Native.Nat.{ℕ, ◌≤◌, ◌<◌}
 use lib.ListN.{length, take, length-map}
 use borrow.Author.Tests.{lt-leb, eq-eqb, ne_eqb}
+use Rattle.std.specs.Prelude.{Ok, Err}
+use Rattle.numbers.specs.declared.refusal.Cause.{Cause}
+use Rattle.numbers.specs.Refusals.{refusal}
 use Rattle.numbers.specs.declared.Cursor.{Cursor}
-use Rattle.numbers.specs.declared.Refusal.{Refusal}
-use Rattle.numbers.specs.declared.Read.{Read}
-use Rattle.files.specs.declared.Object.{Object}
+use Rattle.numbers.specs.declared.refusal.Refusal.{Refusal}
+use Rattle.numbers.specs.Number.{Read}
+use Rattle.opcodes.specs.declared.Object.{Object}
 use Rattle.opcodes.specs.declared.Instr.{Instr}
 use Rattle.files.specs.declared.Outcome.{Outcome}
 use Rattle.files.specs.declared.Ended.{Ended}
@@ -16,8 +19,9 @@ use Rattle.files.specs.declared.objects.Objects.{Objects}
 use Rattle.files.specs.declared.sets.Sets.{Sets}
 use Rattle.files.specs.declared.lines.Code.{Code}
 use Rattle.opcodes.specs.Ranges.{has_sets, within}
-use Rattle.files.specs.Program.{kinds_of, longest, most_code}
-use Rattle.files.specs.Reading.{Reading, whole, refusal, judged, read_file}
+use Rattle.files.specs.Program.{longest, most_code}
+use Rattle.opcodes.specs.Ranges.{kinds_of}
+use Rattle.files.specs.Reading.{Reading, whole, judged, read_file}
 use Rattle.files.specs.Held.{held, held_as}
 use Rattle.files.specs.Inside.{objects_after, objects_behind, objects_of, sets_after, sets_of, code_after, code_of, ObjectsAre, ObjectsHeld, SetsAre, SetsHeld, CodeIs, CodeHeld, whole_of}
 use Rattle.files.proofs.Following.{read_by_parts}
@@ -28,41 +32,41 @@ use Rattle.files.specs.Parsing.{got, after_version, after_object_count, after_ob
 -- ---- the definition, part by part
 
 module _ (version : ℕ) (file : List ℕ) where
-  pub too_long_lem : longest version < length file → read_file version file ≡ Reading.refused (refusal 1 0)
+  pub too_long_lem : longest version < length file → read_file version file ≡ Reading.refused (refusal Cause.TooLong 0)
   unfolding read_file
   too_long_lem h = rw (lt-leb _ _ h, read_file)
 
   by_count : (r : Read) → after_object_count version file r ≡ after_objects version file (objects_after version file r)
-  by_count (Read.Number n next) = refl
-  by_count (Read.Refused q) = refl
+  by_count (Ok (n, next)) = refl
+  by_count (Err q) = refl
 
   by_version : (r : Read) → after_version version file r ≡ after_objects version file (objects_behind version file r)
-  by_version (Read.Number n next) = by_count (judged 5 (within 0 400) file next.at)
-  by_version (Read.Refused q) = refl
+  by_version (Ok (n, next)) = by_count (judged Cause.Count (within 0 400) file next.at)
+  by_version (Err q) = refl
 
   pub by_objects : length file ≤ longest version → read_file version file ≡ after_objects version file (objects_of version file)
-  by_objects h = read_by_parts file version h ∙ by_version (judged 4 (within version version) file 0)
+  by_objects h = read_by_parts file version h ∙ by_version (judged Cause.Version (within version version) file 0)
 
   by_set_count : (os : List Object) (r : Read) → after_set_count version file os r ≡ after_sets version file os (sets_after (length os) file r)
-  by_set_count os (Read.Number n next) = refl
-  by_set_count os (Read.Refused q) = refl
+  by_set_count os (Ok (n, next)) = refl
+  by_set_count os (Err q) = refl
 
   pub by_sets : (os : List Object) (at : ℕ)
       → after_objects version file (got os at) ≡ after_sets version file os (sets_of version (length os) file at)
   by_sets os at = go (has_sets version) refl
     where
       go : (b : Bool) → has_sets version ≡ b → after_objects version file (got os at) ≡ after_sets version file os (sets_of version (length os) file at)
-      go true e = simp (e, after_objects, sets_of) (by_set_count os (judged 5 (within 0 400) file at))
+      go true e = simp (e, after_objects, sets_of) (by_set_count os (judged Cause.Count (within 0 400) file at))
       go false e = simp (e, after_objects, sets_of)
 
   by_code_count : (os : List Object) (ss : List (List ℕ)) (r : Read)
       → after_code_count version file os ss r ≡ after_code file os ss (code_after version (kinds_of os) (length ss) file r)
-  by_code_count os ss (Read.Number n next) = refl
-  by_code_count os ss (Read.Refused q) = refl
+  by_code_count os ss (Ok (n, next)) = refl
+  by_code_count os ss (Err q) = refl
 
   pub by_code : (os : List Object) (ss : List (List ℕ)) (at : ℕ)
       → after_sets version file os (got ss at) ≡ after_code file os ss (code_of version (kinds_of os) (length ss) file at)
-  by_code os ss at = by_code_count os ss (judged 5 (within 1 (most_code version)) file at)
+  by_code os ss at = by_code_count os ss (judged Cause.Count (within 1 (most_code version)) file at)
 
 -- ---- what the parts' answers say
 
@@ -154,7 +158,7 @@ module _ (version : ℕ) (file : List ℕ) where
         }
 
   module _ {o : Objects} {s : Sets} {k : Code} {next : Cursor} (p : PastCode version file o s k next) where
-    pub bytes_behind : (next.at ≡ length file → ⊥) → read_file version file ≡ Reading.refused (refusal 7 next.at)
+    pub bytes_behind : (next.at ≡ length file → ⊥) → read_file version file ≡ Reading.refused (refusal Cause.Surplus next.at)
     bytes_behind h = p.read ∙ simp (ne_eqb _ _ h, after_code)
 
     pub all_read : next.at ≡ length file → whole_of o s k ≡ held (read_file version file)

@@ -1,7 +1,7 @@
 -- What a file says: objects, sets and instructions; and what the versions differ in.
-use Rattle.std.specs.Prelude.{ℕ, List, map, Bool, true, false, eqb}
+use Rattle.std.specs.Prelude.{ℕ, List, Bool, true, false, eqb}
 use Rattle.opcodes.specs.declared.Instr.{Instr}
-use Rattle.files.specs.declared.Object.{Object}
+use Rattle.opcodes.specs.declared.Object.{Object}
 
 -- "the count of objects ..; the count of sets ..; the count of instructions .. and the instructions"
 pub record Program : Type 0 where
@@ -20,6 +20,3 @@ most_code version = elim (eqb version 1) [ true ↦ 1000 | false ↦ 2000 ]
 -- "Limits: 16,384 bytes for version 1, 32,768 for version 2"
 abbrev pub longest : (version : ℕ) → ℕ
 longest version = elim (eqb version 1) [ true ↦ 16384 | false ↦ 32768 ]
-
-abbrev pub kinds_of : List Object → List ℕ
-kinds_of objects = map (λ o. o.kind) objects

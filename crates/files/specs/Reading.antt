@@ -1,15 +1,17 @@
 -- What reading a file answers: the program, or the first refusal from left to right.
 -- "Each number is judged as soon as it is read": refusals 2 and 3 come before its range.
-use Rattle.std.specs.Prelude.{ℕ, zero, suc, ◌+◌, List, [], ◌∷◌, ◌++◌, Bool, true, false, length, ltb, leb, eqb}
-use Rattle.numbers.specs.declared.Refusal.{Refusal}
-use Rattle.numbers.specs.declared.Read.{Read}
-use Rattle.numbers.specs.Number.{read_number}
+use Rattle.std.specs.Prelude.{ℕ, zero, suc, ◌+◌, List, [], ◌∷◌, ◌++◌, Bool, true, false, Ok, Err, length, ltb, leb, eqb}
+use Rattle.numbers.specs.declared.refusal.Refusal.{Refusal}
+use Rattle.numbers.specs.declared.refusal.Cause.{Cause}
+use Rattle.numbers.specs.Refusals.{refusal}
+use Rattle.numbers.specs.Number.{Read, read_number}
 use Rattle.opcodes.specs.declared.Operand.{Operand}
 use Rattle.opcodes.specs.declared.Instr.{Instr}
 use Rattle.opcodes.specs.Table.{row_of, operands_of, make}
 use Rattle.opcodes.specs.Ranges.{Scope, has_sets, has_opcode, within, is_color, present, allowed}
-use Rattle.files.specs.declared.Object.{Object}
-use Rattle.files.specs.Program.{Program, has_colors, most_code, longest, kinds_of}
+use Rattle.opcodes.specs.declared.Object.{Object}
+use Rattle.files.specs.Program.{Program, has_colors, most_code, longest}
+use Rattle.opcodes.specs.Ranges.{kinds_of}
 
 pub data Reading : Type 0 where
   whole : Program → Reading
@@ -20,16 +22,12 @@ abbrev pub on_whole : (Program → Reading) → Reading → Reading
 on_whole next (whole p) = next p
 on_whole next (Reading.refused q) = Reading.refused q
 
-abbrev pub refusal : (number place : ℕ) → Refusal
-refusal number place = record { number = number; place = place }
-
 -- "any other field out of its range or order | its first byte": a number that has to pass a test
-abbrev pub judge : (why at : ℕ) → (ℕ → Bool) → Read → Read
-judge why at test (Read.Number n next) =
-    elim (test n) [ true ↦ Read.Number n next | false ↦ Read.Refused (refusal why at) ]
-judge why at test (Read.Refused q) = Read.Refused q
+abbrev pub judge : Cause → (at : ℕ) → (ℕ → Bool) → Read → Read
+judge why at test (Ok r) = elim (test r.0) [ true ↦ Ok r | false ↦ Err (refusal why at) ]
+judge why at test (Err q) = Err q
 
-abbrev pub judged : (why : ℕ) → (ℕ → Bool) → List ℕ → (at : ℕ) → Read
+abbrev pub judged : Cause → (ℕ → Bool) → List ℕ → (at : ℕ) → Read
 judged why test file at = judge why at test (read_number file at)
 
 -- ---- "A file is numbers and nothing else": which numbers are asked for, one after the other, each with its
@@ -40,9 +38,9 @@ pub data Sort : Type 0 where
   count : Sort
   field : Sort
 
-abbrev pub refused_with : Sort → ℕ
-refused_with count = 5
-refused_with field = 6
+abbrev pub refused_with : Sort → Cause
+refused_with count = Cause.Count
+refused_with field = Cause.Field
 
 pub data Plan : Type 0 where
   done : Program → Plan
@@ -50,12 +48,12 @@ pub data Plan : Type 0 where
 
 -- the number and the place behind it, or the end of reading
 abbrev pub on : Read → (ℕ → ℕ → Reading) → Reading
-on (Read.Number n next) f = f n next.at
-on (Read.Refused q) f = Reading.refused q
+on (Ok r) f = f r.0 r.1.at
+on (Err q) f = Reading.refused q
 
 -- reading by a plan from a place on: "7 | bytes after the last instruction | the first of them"
 unfoldable pub follow : Plan → List ℕ → (at : ℕ) → Reading
-follow (done p) file at = elim (eqb at (length file)) [ true ↦ whole p | false ↦ Reading.refused (refusal 7 at) ]
+follow (done p) file at = elim (eqb at (length file)) [ true ↦ whole p | false ↦ Reading.refused (refusal Cause.Surplus at) ]
 follow (ask sort test next) file at = on (judged (refused_with sort) test file at) (λ n behind. follow (next n) file behind)
 
 -- a field that stands in the file, or 0
@@ -128,6 +126,6 @@ file_plan version =
 unfoldable pub read_file : (version : ℕ) → List ℕ → Reading
 read_file version file =
     elim (leb (length file) (longest version)) [
-      | true ↦ on (judged 4 (within version version) file 0) (λ n behind. follow (file_plan version) file behind)
-      | false ↦ Reading.refused (refusal 1 0)
+      | true ↦ on (judged Cause.Version (within version version) file 0) (λ n behind. follow (file_plan version) file behind)
+      | false ↦ Reading.refused (refusal Cause.TooLong 0)
     ]

@@ -2,12 +2,13 @@
 use Rattle.std.specs.Prelude.{ℕ, ◌+◌, ◌≡◌, List, [], ◌∷◌, ◌++◌, Bool, true, false, length, ltb, leb, eqb}
 use Rattle.numbers.specs.Number.{spell}
 use Rattle.opcodes.specs.declared.Operand.{Operand}
-use Rattle.files.specs.declared.Object.{Object}
+use Rattle.opcodes.specs.declared.Object.{Object}
 use Rattle.opcodes.specs.declared.Instr.{Instr}
 use Rattle.opcodes.specs.declared.Parts.{Parts}
 use Rattle.opcodes.specs.Table.{parts_of, operands_in}
 use Rattle.opcodes.specs.Ranges.{Scope, has_sets, has_opcode, within, is_color, present, allowed}
-use Rattle.files.specs.Program.{Program, has_colors, most_code, longest, kinds_of}
+use Rattle.files.specs.Program.{Program, has_colors, most_code, longest}
+use Rattle.opcodes.specs.Ranges.{kinds_of}
 
 -- what each element of a list is spelled as, one after the other
 unfoldable pub spell_all : {A : Type 0} → (A → List ℕ) → List A → List ℕ

@@ -1,121 +1,62 @@
-// The objects of a file. A loop that fills an array owns it, or is lent it: no array is copied once for each
-// element.
+// The objects of a file. The loop that fills the list owns it: no list is copied once for each element.
 ghost use Rattle.std.specs.Prelude.{◌≡◌, [], ◌≤◌};
-ghost use Rattle.files.specs.Inside.{why_object, ObjectsAre, objects_of};
-ghost use Rattle.files.specs.Parsing.{read_object, refused, objects_from};
+ghost use Rattle.files.specs.Held.{objects_held};
+ghost use Rattle.files.specs.Parsing.{hold, read_object, objects_from, objects_of};
 
-use super::blank::{blank_bytes, blank_halves};
-use super::fields::{color_at, ranged, size_at, why_read};
-use super::{Ended, Object, ObjectRead};
-use numbers::{Cursor, Read, Refusal};
+use super::Objects;
+use super::fields::{color_at, ranged, size_at};
+use numbers::Cursor;
+use numbers::refusal::{Refusal, Cause};
+use opcodes::Object;
 
-// The objects of a file, and how reading them ended.
-#[derive(Clone, Copy)]
-pub struct Objects {
-    pub count: usize,
-    pub kinds: [u8; 400],
-    pub sizes: [u16; 400],
-    pub colors: [u8; 400],
-    pub ended: Ended,
-}
+// An object of which nothing counts.
+const BLANK: Object = Object {
+    kind: 0,
+    size: 0,
+    color: 0,
+};
 
 // One object.
-fn read_object(file: &[u8], from: Cursor, version: u8) -> ObjectRead
+fn read_object(file: &[u8], from: Cursor, version: u8) -> Result<(Object, Cursor), Refusal>
     ensures { result ≡ read_object version file.now from.at }
 {
-    let kind_read = ranged(file, from, 6, 0, 1);
-    let Read::Number(kind, past_kind) = kind_read else {
-        return ObjectRead::Refused(why_read(kind_read));
+    let (kind, past_kind) = ranged(file, from, Cause::Field, 0, 1)?;
+    let (size, past_size) = size_at(file, past_kind, kind)?;
+    let (color, next) = color_at(file, past_size, version)?;
+    let object = Object {
+        kind: kind as u8,
+        size: size as u16,
+        color: color as u8,
     };
-    let size_read = size_at(file, past_kind, kind);
-    let Read::Number(size, past_size) = size_read else {
-        return ObjectRead::Refused(why_read(size_read));
-    };
-    let color_read = color_at(file, past_size, version);
-    let Read::Number(color, next) = color_read else {
-        return ObjectRead::Refused(why_read(color_read));
-    };
-    ObjectRead::Object(
-        Object {
-            kind: kind as u8,
-            size: size as u16,
-            color: color as u8,
-        },
-        next,
-    )
-}
-
-// Why an object was not read.
-fn why_object(read: ObjectRead) -> Refusal
-    ensures { result ≡ why_object read }
-{
-    match read {
-        ObjectRead::Object(_, _) => Refusal {
-            number: 0,
-            place: 0,
-        },
-        ObjectRead::Refused(q) => q,
-    }
+    Ok((object, next))
 }
 
 // `count` objects.
-fn read_objects(file: &[u8], from: Cursor, version: u8, count: usize) -> Objects
+fn read_objects(
+    file: &[u8],
+    from: Cursor,
+    version: u8,
+    count: usize,
+) -> Result<(Objects, Cursor), Refusal>
     requires { count ≤ 400 }
-    ensures { ObjectsAre (objects_from count version file.now from.at []) result }
+    ensures { result ≡ hold objects_held (objects_from count version file.now from.at []) }
 {
-    let mut kinds = blank_bytes();
-    let mut sizes = blank_halves();
-    let mut colors = blank_bytes();
+    let mut list = [BLANK; 400];
     let mut next = from;
     for i in 0..count {
-        let read = read_object(file, next, version);
-        let ObjectRead::Object(object, behind) = read else {
-            return Objects {
-                count,
-                kinds,
-                sizes,
-                colors,
-                ended: Ended::Refused(why_object(read)),
-            };
-        };
-        kinds[i] = object.kind;
-        sizes[i] = object.size;
-        colors[i] = object.color;
+        let (object, behind) = read_object(file, next, version)?;
+        list[i] = object;
         next = behind;
     }
-    Objects {
-        count,
-        kinds,
-        sizes,
-        colors,
-        ended: Ended::Next(next),
-    }
-}
-
-// No objects: the file was refused before them.
-fn no_objects(q: Refusal) -> Objects
-    ensures { ObjectsAre (refused q) result }
-{
-    Objects {
-        count: 0,
-        kinds: blank_bytes(),
-        sizes: blank_halves(),
-        colors: blank_bytes(),
-        ended: Ended::Refused(q),
-    }
+    Ok((Objects { count, list }, next))
 }
 
 // The version, the count of objects, and the objects.
-pub(crate) fn objects_of(file: &[u8], version: u8) -> Objects
-    ensures { ObjectsAre (objects_of version file.now) result }
+pub(crate) fn objects_of(file: &[u8], version: u8) -> Result<(Objects, Cursor), Refusal>
+    ensures { result ≡ hold objects_held (objects_of version file.now) }
 {
-    let version_read = ranged(file, Cursor { at: 0 }, 4, version as u32, version as u32);
-    let Read::Number(_, past_version) = version_read else {
-        return no_objects(why_read(version_read));
-    };
-    let count_read = ranged(file, past_version, 5, 0, 400);
-    let Read::Number(count, next) = count_read else {
-        return no_objects(why_read(count_read));
-    };
+    let this = version as u32;
+    let (_, past_version) = ranged(file, Cursor { at: 0 }, Cause::Version, this, this)?;
+    let (count, next) = ranged(file, past_version, Cause::Count, 0, 400)?;
     read_objects(file, next, version, count as usize)
 }

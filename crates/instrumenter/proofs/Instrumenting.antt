@@ -8,7 +8,8 @@ use lib.ListN.{length}
 use lib.Dec.{leb}
 use borrow.Author.Tests.{le-leb, lt-ltb, ltb-true}
 use Rattle.opcodes.specs.Ranges.{within}
-use Rattle.files.specs.Program.{Program, kinds_of}
+use Rattle.files.specs.Program.{Program}
+use Rattle.opcodes.specs.Ranges.{kinds_of}
 use Rattle.files.specs.Writing.{every, good_object, good_instr, scope_of, good_program, spell_file}
 use Rattle.safety.specs.Unsafe.{unsafe_sets}
 use Rattle.coloring.specs.Colored.{tinted, color_in, few_classes}

@@ -10,7 +10,7 @@ use mathlib.Core.Bool.{Bool, true, false}
 use lib.ListN.{length, get_or, length-append}
 use Rattle.numbers.specs.Number.{width}
 use Rattle.numbers.proofs.Laws.{width_last, width_more, width_least, width_most}
-use Rattle.files.specs.declared.Object.{Object}
+use Rattle.opcodes.specs.declared.Object.{Object}
 use Rattle.opcodes.specs.declared.Instr.{Instr}
 use Rattle.opcodes.specs.declared.Instr.TheVariants.{End, Place, Add, Sub, Less, Load8, Load32, Put8, Put32, Write8, Write32, Jump, JumpIf, Alloc, Free, In, Out, Check8, Check32, CheckPut8, CheckPut32}
 use Rattle.files.specs.Program.{Program}

@@ -8,14 +8,15 @@ use mathlib.Core.Bool.{Bool, true, false}
 use lib.ListN.{length, get_or}
 use lib.Dec.{ltb, leb, eqb}
 use borrow.Author.Tests.{eq-eqb, ne_eqb, eqb-true}
-use Rattle.files.specs.declared.Object.{Object}
+use Rattle.opcodes.specs.declared.Object.{Object}
 use Rattle.opcodes.specs.declared.Group.{Group}
 use Rattle.opcodes.specs.declared.Operand.{Operand}
 use Rattle.opcodes.specs.declared.Parts.{Parts}
 use Rattle.opcodes.specs.declared.Instr.{Instr}
 use Rattle.opcodes.specs.Table.{rows, row_of, operands_of, numbers_of, parts_of, named, operands_in, Each}
 use Rattle.opcodes.specs.Ranges.{Scope, has_group, has_opcode, within, is_color, is_kind}
-use Rattle.files.specs.Program.{Program, kinds_of}
+use Rattle.files.specs.Program.{Program}
+use Rattle.opcodes.specs.Ranges.{kinds_of}
 use Rattle.files.specs.Writing.{both, every, good_object, good_operand, good_operands, good_parts, good_instr, scope_of}
 use Rattle.opcodes.specs.View.{one, four, in_global, at_temp, View, act, jump, jump_if, store, check, view, check_instr}
 use Rattle.safety.specs.Unsafe.{safe_aim, set_of, unsafe_set, sets_in, unsafe_sets}

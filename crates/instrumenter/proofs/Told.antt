@@ -9,14 +9,16 @@ use lib.Dec.{leb}
 use types.Run.{OneOf, miss}
 use denote.Enum.Declared.{tag_of}
 use borrow.Author.Tests.{leb-true, leb-false, le-leb, lt-leb}
-use Rattle.numbers.specs.declared.Refusal.{Refusal}
+use Rattle.numbers.specs.declared.refusal.Cause.{Cause}
+use Rattle.numbers.specs.Refusals.{refusal}
+use Rattle.numbers.specs.declared.refusal.Refusal.{Refusal}
 use Rattle.files.specs.declared.Loaded.{Loaded}
 use Rattle.files.specs.declared.Outcome.{Outcome}
 use Rattle.files.specs.declared.Written.{Written}
 use Rattle.files.specs.contracts.Outcome
 use Rattle.files.specs.contracts.Written
 use Rattle.files.specs.Program.{Program}
-use Rattle.files.specs.Reading.{Reading, whole, refusal, on_whole, read_file}
+use Rattle.files.specs.Reading.{Reading, whole, on_whole, read_file}
 use Rattle.files.specs.Writing.{good_program}
 use Rattle.files.specs.Held.{held, held_as, writable, file_of, written_in, room_with}
 use Rattle.coloring.specs.Colored.{tinted, with_colors, color_in, few_classes, colored}
@@ -49,13 +51,13 @@ module _ (bytes : List ℕ) where
   unfolding colored
   few_colored p r c =
       ap colored r
-      ∙ ap (λ (b : Bool). on_whole (λ p. whole (with_colors (color_in p) p)) (elim b [ true ↦ whole p | false ↦ Reading.refused (refusal 8 0) ])) c
+      ∙ ap (λ (b : Bool). on_whole (λ p. whole (with_colors (color_in p) p)) (elim b [ true ↦ whole p | false ↦ Reading.refused (refusal Cause.ManyClasses 0) ])) c
 
-  many_colored : (p : Program) → read_file 1 bytes ≡ whole p → few_classes p ≡ false → colored (read_file 1 bytes) ≡ Reading.refused (refusal 8 0)
+  many_colored : (p : Program) → read_file 1 bytes ≡ whole p → few_classes p ≡ false → colored (read_file 1 bytes) ≡ Reading.refused (refusal Cause.ManyClasses 0)
   unfolding colored
   many_colored p r c =
       ap colored r
-      ∙ ap (λ (b : Bool). on_whole (λ p. whole (with_colors (color_in p) p)) (elim b [ true ↦ whole p | false ↦ Reading.refused (refusal 8 0) ])) c
+      ∙ ap (λ (b : Bool). on_whole (λ p. whole (with_colors (color_in p) p)) (elim b [ true ↦ whole p | false ↦ Reading.refused (refusal Cause.ManyClasses 0) ])) c
 
   -- ---- a file that is refused with 1 to 8
 
@@ -114,7 +116,7 @@ module _ (bytes : List ℕ) where
             classes = c;
             is = wholly (whole (with_colors (color_in p) p)) (few_colored p r c);
           }
-      counted p r false c = no (refusal 8 0) (many_colored p r c)
+      counted p r false c = no (refusal Cause.ManyClasses 0) (many_colored p r c)
 
       reading : (x : Reading) → read_file 1 bytes ≡ x → Kept l
       reading (whole p) r = counted p r (few_classes p) refl
@@ -135,10 +137,10 @@ module _ (bytes : List ℕ) where
         ∙ ap end_of (pieces_held os few)
 
     pub told_overfull : (room : List ℕ) (laid : Layout) → laid ≡ layout_of (pieces_in l.kinds l.sizes l.colors l.objects) → 28672 < laid.end
-        → Answers bytes room (Instrumented.Refused (refusal 9 0)) room
+        → Answers bytes room (Instrumented.Refused (refusal Cause.LargeGlobals 0)) room
     told_overfull room laid e h =
         let over : 28672 < end_of (pieces_of (tinted (color_in k.routine) 0 k.routine.objects)) = omega (arith, end_is laid e) in
-        answer bytes room (FileAnswer.refused (refusal 9 0))
+        answer bytes room (FileAnswer.refused (refusal Cause.LargeGlobals 0))
         (answers bytes (length room)
         (overfull k.read k.classes (sym (own_fit k.routine) ∙ lt-leb (end_of (pieces_of (tinted (color_in k.routine) 0 k.routine.objects))) 28672 over)))
 
@@ -176,8 +178,8 @@ module _ (bytes : List ℕ) where
       -- the answer that goes with what writing answered
       abbrev pub Ends : Written → Type 0
       Ends (Written.Upto n) = Answers bytes room (Instrumented.Written n) (room_with room q)
-      Ends Written.TooSmall = Answers bytes room (Instrumented.Refused (refusal 10 0)) (room_with room q)
-      Ends Written.NoProgram = Answers bytes room (Instrumented.Refused (refusal 10 0)) (room_with room q)
+      Ends Written.TooSmall = Answers bytes room (Instrumented.Refused (refusal Cause.SmallRoom 0)) (room_with room q)
+      Ends Written.NoProgram = Answers bytes room (Instrumented.Refused (refusal Cause.SmallRoom 0)) (room_with room q)
 
       pub ends : Ends (written_in room q)
       ends = go (leb (length (new_file k.routine)) (length room)) refl
@@ -189,7 +191,7 @@ module _ (bytes : List ℕ) where
               subst Ends (sym (room_wide h).0) (a.0, (room_wide h).1 ∙ a.1)
           go false e =
               let h : length room < length (new_file k.routine) = leb-false (length (new_file k.routine)) (length room) e in
-              let a = answer bytes room (FileAnswer.refused (refusal 10 0)) (answers bytes (length room) (cramped k.read k.classes fit h)) in
+              let a = answer bytes room (FileAnswer.refused (refusal Cause.SmallRoom 0)) (answers bytes (length room) (cramped k.read k.classes fit h)) in
               subst Ends (sym (room_narrow h).0) (a.0, (room_narrow h).1 ∙ a.1)
 
       -- as the code meets it
@@ -197,10 +199,10 @@ module _ (bytes : List ℕ) where
       told_written n after e f = let a = subst Ends e ends in (a.0, f ∙ a.1)
 
       pub told_cramped : (x : Written) (after : List ℕ) → x ≡ written_in room q → OneOf (1 ∷ 2 ∷ []) (tag_of Rattle.files.specs.contracts.Written.the_type x) → after ≡ room_with room q
-          → Answers bytes room (Instrumented.Refused (refusal 10 0)) after
+          → Answers bytes room (Instrumented.Refused (refusal Cause.SmallRoom 0)) after
       told_cramped x after e t f = go x (subst Ends (sym e) ends) t
         where
-          go : (x : Written) → Ends x → OneOf (1 ∷ 2 ∷ []) (tag_of Rattle.files.specs.contracts.Written.the_type x) → Answers bytes room (Instrumented.Refused (refusal 10 0)) after
+          go : (x : Written) → Ends x → OneOf (1 ∷ 2 ∷ []) (tag_of Rattle.files.specs.contracts.Written.the_type x) → Answers bytes room (Instrumented.Refused (refusal Cause.SmallRoom 0)) after
           go (Written.Upto n) a t = absurd (miss (1 ∷ 2 ∷ []) 0 tt t)
           go Written.TooSmall a t = (a.0, f ∙ a.1)
           go Written.NoProgram a t = (a.0, f ∙ a.1)

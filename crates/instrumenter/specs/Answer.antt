@@ -1,8 +1,10 @@
 -- What the instrumenter answers: a file, or a refusal; "then 8 and 9, last 10".
 use Rattle.std.specs.Prelude.{ℕ, List, ◌++◌, true, false, length, drop, leb}
-use Rattle.numbers.specs.declared.Refusal.{Refusal}
+use Rattle.numbers.specs.declared.refusal.Cause.{Cause}
+use Rattle.numbers.specs.Refusals.{refusal}
+use Rattle.numbers.specs.declared.refusal.Refusal.{Refusal}
 use Rattle.files.specs.Program.{Program}
-use Rattle.files.specs.Reading.{Reading, whole, refusal, read_file}
+use Rattle.files.specs.Reading.{Reading, whole, read_file}
 use Rattle.files.specs.Writing.{spell_file}
 use Rattle.coloring.specs.Colored.{color_in}
 use Rattle.routines.specs.Accepted.{accepted}
@@ -19,7 +21,7 @@ new_file p = spell_file 2 (instrumented (color_in p) p)
 
 -- "10 | room for the version 2 file too small | 0"
 abbrev pub room_for : (room : ℕ) → List ℕ → FileAnswer
-room_for room bytes = elim (leb (length bytes) room) [ true ↦ file bytes | false ↦ FileAnswer.refused (refusal 10 0) ]
+room_for room bytes = elim (leb (length bytes) room) [ true ↦ file bytes | false ↦ FileAnswer.refused (refusal Cause.SmallRoom 0) ]
 
 abbrev pub answer_for : (room : ℕ) → Reading → FileAnswer
 answer_for room (whole p) = room_for room (new_file p)

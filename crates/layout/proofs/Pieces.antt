@@ -9,7 +9,7 @@ use lib.Seq.{ext_get_or}
 use lib.Dec.{eqb}
 use borrow.Author.Tests.{le-leb}
 use Rattle.files.specs.Held.{tabulate, filled}
-use Rattle.files.specs.declared.Object.{Object}
+use Rattle.opcodes.specs.declared.Object.{Object}
 use Rattle.files.proofs.Filled.{filled_more, get_d_filled, get_d_filled_map}
 use Rattle.files.proofs.Tabulated.{length-tabulate, get_d_tabulate_zero, take-tabulate, tabulate_last}
 use Rattle.layout.specs.declared.Layout.{Layout}

@@ -1,6 +1,6 @@
 -- 01, "Memory and table": where the globals stand.
 use Rattle.std.specs.Prelude.{ℕ, ◌+◌, List, [], ◌∷◌, map, Bool, true, false, get_or, take, eqb, leb}
-use Rattle.files.specs.declared.Object.{Object}
+use Rattle.opcodes.specs.declared.Object.{Object}
 use Rattle.opcodes.specs.View.{extent}
 
 -- what the layout asks of an object: its kind, its size, and whether it is safe

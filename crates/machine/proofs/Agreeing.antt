@@ -8,7 +8,8 @@ use Rattle.std.proofs.Common.{◌≡◌, ℕ, zero, suc, ◌+◌, ◌<◌, Bool,
 use lib.ListN.{length-map}
 use Rattle.opcodes.specs.declared.Instr.{Instr}
 use Rattle.opcodes.specs.Ranges.{is_kind}
-use Rattle.files.specs.Program.{Program, kinds_of}
+use Rattle.files.specs.Program.{Program}
+use Rattle.opcodes.specs.Ranges.{kinds_of}
 use Rattle.opcodes.specs.View.{Aim, in_global, at_temp, Act, View, act, jump, jump_if, store, check, view}
 use Rattle.files.specs.Writing.{every, good_instr, scope_of}
 use Rattle.opcodes.proofs.Bounds.{kind_below}

@@ -6,13 +6,15 @@
 -- the run of the program, or refusal 9. `run_file` adds the refusals before it.
 use Rattle.std.proofs.Common.{◌≡◌, ℕ, ◌+◌, ◌*◌, ◌≤◌, Bool, true, false, ltb, List, map, length, get_or, sym, refl, ap, ◌∙◌, subst, not-suc-le-zero, arith, ltb-false, ltb-true, eq-eqb, leb-true}
 use lib.ListN.{get_or-eq_default}
-use Rattle.numbers.specs.declared.Refusal.{Refusal}
+use Rattle.numbers.specs.declared.refusal.Cause.{Cause}
+use Rattle.numbers.specs.Refusals.{refusal}
+use Rattle.numbers.specs.declared.refusal.Refusal.{Refusal}
 use Rattle.opcodes.specs.declared.Instr.{Instr}
-use Rattle.files.specs.declared.Object.{Object}
+use Rattle.opcodes.specs.declared.Object.{Object}
 use Rattle.files.specs.declared.Outcome.{Outcome}
 use Rattle.files.specs.declared.Loaded.{Loaded}
 use Rattle.files.specs.Program.{Program}
-use Rattle.files.specs.Reading.{Reading, whole, refusal, read_file}
+use Rattle.files.specs.Reading.{Reading, whole, read_file}
 use Rattle.files.specs.Writing.{scope_of}
 use Rattle.files.specs.Held.{filled, tabulate, line, held_as, held}
 use Rattle.opcodes.proofs.Bounds.{within_bounds}
@@ -67,10 +69,10 @@ module _ (l : Loaded) (input : List ℕ) (limit : ℕ) (lent : Lent) where
     runs_by b =
         elim b [
           | true ↦ run_held (code_of l.code l.lines) laid.starts l.colors input limit after
-          | false ↦ refuse after (refusal 9 0)
+          | false ↦ refuse after (refusal Cause.LargeGlobals 0)
         ]
 
-    pub says_long : {run : Run} → laid.fits ≡ false → run ≡ refused_run (refusal 9 0)
+    pub says_long : {run : Run} → laid.fits ≡ false → run ≡ refused_run (refusal Cause.LargeGlobals 0)
         → answered run after ≡ run_for (code_of l.code l.lines) l.colors input limit after laid
     says_long not e = ap (λ x. answered x after) e ∙ sym (ap runs_by not)
 
@@ -140,14 +142,14 @@ module _ (p : Program) (good : Good 2 p) (input : List ℕ) (limit : ℕ) (lent 
 
       go : (b : Bool) → fits (pieces_of p.objects) ≡ b
           → run_laid code colors input limit lent.room (first_for p lent.memory lent.table good.objects_most memory table b)
-          ≡ elim b [ true ↦ run_program input limit lent p | false ↦ refuse lent (refusal 9 0) ]
+          ≡ elim b [ true ↦ run_program input limit lent p | false ↦ refuse lent (refusal Cause.LargeGlobals 0) ]
       go true e = run_held_lem (leb-true _ _ e)
       go false e = refl
 
 -- ---- the refusals, and a whole file
 
 module _ (file input : List ℕ) (limit : ℕ) (lent : Lent) where
-  pub wrong_lengths : {run : Run} → exact_lengths lent ≡ false → run ≡ refused_run (refusal 11 0) → answered run lent ≡ run_file file input limit lent
+  pub wrong_lengths : {run : Run} → exact_lengths lent ≡ false → run ≡ refused_run (refusal Cause.WrongLength 0) → answered run lent ≡ run_file file input limit lent
   unfolding run_file
   wrong_lengths other e = ap (λ x. answered x lent) e ∙ rw (other, run_file) refl
 

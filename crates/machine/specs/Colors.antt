@@ -1,7 +1,7 @@
 -- The rule of the color table: a check passes where every byte that it covers lies in memory, in a slot
 -- of its color; stores are not asked.
 use Rattle.std.specs.Prelude.{ℕ, Bool, true, List, slice_index_or}
-use Rattle.files.specs.declared.Object.{Object}
+use Rattle.opcodes.specs.declared.Object.{Object}
 use Rattle.files.specs.Program.{Program}
 use Rattle.opcodes.specs.View.{View, act, jump, jump_if, store, check}
 use Rattle.layout.specs.Layout.{pieces_of, start_of}

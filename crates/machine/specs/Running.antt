@@ -1,8 +1,10 @@
 -- What running a version 2 file answers, for any bytes, input, room, limit and lent buffers.
 use Rattle.std.specs.Prelude.{ℕ, Bool, true, false, List, ◌++◌, length, drop}
-use Rattle.numbers.specs.declared.Refusal.{Refusal}
+use Rattle.numbers.specs.declared.refusal.Cause.{Cause}
+use Rattle.numbers.specs.Refusals.{refusal}
+use Rattle.numbers.specs.declared.refusal.Refusal.{Refusal}
 use Rattle.files.specs.Program.{Program}
-use Rattle.files.specs.Reading.{Reading, whole, refusal, read_file}
+use Rattle.files.specs.Reading.{Reading, whole, read_file}
 use Rattle.layout.specs.Layout.{pieces_of, fits}
 use Rattle.memory.specs.Memory.{exact}
 use Rattle.stops.specs.declared.Run.{Run}
@@ -48,7 +50,7 @@ run_program input limit lent p =
 -- "9 | globals end above 28,672"; "Running never gives 8 or 10"
 abbrev pub run_reading : (input : List ℕ) (limit : ℕ) → Lent → Reading → Answer
 run_reading input limit lent (whole p) =
-    elim (fits (pieces_of p.objects)) [ true ↦ run_program input limit lent p | false ↦ refuse lent (refusal 9 0) ]
+    elim (fits (pieces_of p.objects)) [ true ↦ run_program input limit lent p | false ↦ refuse lent (refusal Cause.LargeGlobals 0) ]
 run_reading input limit lent (Reading.refused q) = refuse lent q
 
 -- "11 | memory or table not of its exact length | 0"; "11 first (running only)"
@@ -58,4 +60,4 @@ exact_lengths lent = exact lent.memory lent.table
 unfoldable pub run_file : (file input : List ℕ) (limit : ℕ) → Lent → Answer
 run_file file input limit lent =
     elim (exact_lengths lent)
-    [ true ↦ run_reading input limit lent (read_file 2 file) | false ↦ refuse lent (refusal 11 0) ]
+    [ true ↦ run_reading input limit lent (read_file 2 file) | false ↦ refuse lent (refusal Cause.WrongLength 0) ]

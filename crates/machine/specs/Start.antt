@@ -1,8 +1,9 @@
 -- The start of a run from a file that is held in arrays: the words of contracts inside this crate.
 use Rattle.std.specs.Prelude.{◌≡◌, ℕ, ◌≤◌, true, false, List, length}
+use Rattle.numbers.specs.declared.refusal.Cause.{Cause}
+use Rattle.numbers.specs.Refusals.{refusal}
 use Rattle.opcodes.specs.declared.Instr.{Instr}
 use Rattle.files.specs.declared.Loaded.{Loaded}
-use Rattle.files.specs.Reading.{refusal}
 use Rattle.memory.specs.Memory.{memory_size, table_size}
 use Rattle.heap.specs.Lent.{After}
 use Rattle.start.specs.declared.Laid.{Laid}
@@ -15,7 +16,7 @@ use Rattle.machine.specs.Turn.{AllNarrow, run_held}
 abbrev pub run_for : (code : List Instr) (colors input : List ℕ) (limit : ℕ) → Lent → Laid → Answer
 run_for code colors input limit lent laid =
     elim laid.fits
-    [ true ↦ run_held code laid.starts colors input limit lent | false ↦ refuse lent (refusal 9 0) ]
+    [ true ↦ run_held code laid.starts colors input limit lent | false ↦ refuse lent (refusal Cause.LargeGlobals 0) ]
 
 abbrev pub run_laid : (code : List Instr) (colors input : List ℕ) (limit : ℕ) (room : List ℕ) → After Laid → Answer
 run_laid code colors input limit room laid =

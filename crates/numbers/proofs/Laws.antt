@@ -9,7 +9,7 @@ use lib.Seq.{sets, sets-eq, drop-append-le, drop-append-add, drop-append_seam, t
 use borrow.Author.Tests.{le-leb, lt-leb}
 use Rattle.std.specs.Prelude.{Some, None, Ok, Err}
 use Rattle.numbers.specs.Refusals.{refusal}
-use Rattle.numbers.specs.declared.refusal.Why.{Why}
+use Rattle.numbers.specs.declared.refusal.Cause.{Cause}
 use Rattle.numbers.specs.Number.{spell, width, read_number}
 use Rattle.numbers.specs.Number.{fits_at, written_at, room_after}
 use Rattle.numbers.specs.declared.Cursor.{Cursor}
@@ -71,11 +71,11 @@ module _ (file : List ℕ) (at : ℕ) {n : ℕ} {c : Cursor} where
 
 -- a refusal is one of 2 and 3, with 01's place
 pub refusal_is_2_or_3 : (file : List ℕ) (at : ℕ) {q : Refusal} → read_number file at ≡ Err q
-    → (q ≡ refusal Why.EndsEarly (length file)) ⊎ (q ≡ refusal Why.BadNumber at)
+    → (q ≡ refusal Cause.EndsEarly (length file)) ⊎ (q ≡ refusal Cause.BadNumber at)
 refusal_is_2_or_3 file at {q} e = go (outcome 5 refl (start file at))
   where
     go : Outcome 5 file at at 0 0
-        → (q ≡ refusal Why.EndsEarly (length file)) ⊎ (q ≡ refusal Why.BadNumber at)
+        → (q ≡ refusal Cause.EndsEarly (length file)) ⊎ (q ≡ refusal Cause.BadNumber at)
     go (refused q' this which) = let same : q ≡ q' = cc in rw same which
     go (number n c this f) = let z : ◌≡◌ {A = ℕ} 0 1 = cc in absurd (omega arith)
 

@@ -13,7 +13,7 @@ use lib.ListN.{length, get_or, drop, length-drop}
 use lib.Seq.{drop-cons}
 use Rattle.std.specs.Prelude.{Ok, Err}
 use Rattle.numbers.specs.Refusals.{refusal}
-use Rattle.numbers.specs.declared.refusal.Why.{Why}
+use Rattle.numbers.specs.declared.refusal.Cause.{Cause}
 use Rattle.numbers.specs.Number.{groups, largest, read_number}
 use Rattle.numbers.specs.declared.Cursor.{Cursor}
 use Rattle.numbers.specs.declared.refusal.Refusal.{Refusal}
@@ -32,7 +32,7 @@ pub record Found (left : ℕ) (file : List ℕ) (at value i n : ℕ) (c : Cursor
 
 pub data Outcome (left : ℕ) (file : List ℕ) (first at value i : ℕ) : Type 0 where
   refused : (q : Refusal) → Err q ≡ read_number file first
-      → (q ≡ refusal Why.EndsEarly (length file)) ⊎ (q ≡ refusal Why.BadNumber first)
+      → (q ≡ refusal Cause.EndsEarly (length file)) ⊎ (q ≡ refusal Cause.BadNumber first)
       → Outcome left file first at value i
   number : (n : ℕ) (c : Cursor) → Ok (n, c) ≡ read_number file first → Found left file at value i n c
       → Outcome left file first at value i

@@ -4,7 +4,7 @@ use Rattle.std.specs.Prelude.{ℕ, zero, suc, ◌+◌, ◌*◌, ◌/◌, ◌%◌
 use Rattle.std.proofs.lemmas.List.Edits.{sets}
 use Rattle.numbers.specs.declared.Cursor.{Cursor}
 use Rattle.numbers.specs.declared.refusal.Refusal.{Refusal}
-use Rattle.numbers.specs.declared.refusal.Why.{Why}
+use Rattle.numbers.specs.declared.refusal.Cause.{Cause}
 use Rattle.numbers.specs.Refusals.{refusal}
 
 -- what reading a number answers: the value with the cursor behind it, or a refusal
@@ -28,11 +28,11 @@ width n = length (spell n)
 
 -- "2 | file ends early | its length"
 abbrev pub ends_early : List ℕ → Read
-ends_early file = Err (refusal Why.EndsEarly (length file))
+ends_early file = Err (refusal Cause.EndsEarly (length file))
 
 -- "3 | number not shortest or above 32 bits | its first byte"
 abbrev pub bad_number : ℕ → Read
-bad_number first = Err (refusal Why.BadNumber first)
+bad_number first = Err (refusal Cause.BadNumber first)
 
 -- the largest byte that may stand as group i: "a fifth byte above 15 is refused with 3 at once"
 abbrev pub largest : ℕ → ℕ

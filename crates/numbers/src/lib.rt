@@ -7,7 +7,7 @@
 ghost use Rattle.std.specs.Prelude.{◌≡◌, ◌+◌, ◌/◌, ◌%◌, ◌<◌, Err};
 ghost use Rattle.numbers.specs.Number.{read_number, width, written_at, room_after};
 
-use refusal::{Refusal, Why};
+use refusal::{Refusal, Cause};
 
 pub mod refusal; // refusal.rt: why a file is not taken
 
@@ -21,10 +21,10 @@ pub struct Cursor {
 pub type Read = Result<(u32, Cursor), Refusal>;
 
 // A refusal in place of a number.
-fn refused(why: Why, place: usize) -> Read
-    ensures { result ≡ Err (record { why = why; place = place }) }
+fn refused(cause: Cause, place: usize) -> Read
+    ensures { result ≡ Err (record { cause = cause; place = place }) }
 {
-    Err(Refusal { why, place })
+    Err(Refusal { cause, place })
 }
 
 // The number at a cursor, which may be any: past the end the file ends early. docs/FORMAT.md has the rules of a
@@ -38,27 +38,27 @@ pub fn read_number(file: &[u8], from: Cursor) -> Read
     // At most five groups, the low group first.
     for group in 0..5u32 {
         if file.len() <= at {
-            return refused(Why::EndsEarly, file.len());
+            return refused(Cause::EndsEarly, file.len());
         }
         let byte = file[at] as u32;
         at += 1;
         let bits = byte & 127;
         // Four groups are 28 bits: of 32, a fifth has four.
         if group == 4 && 15 < bits {
-            return refused(Why::BadNumber, first);
+            return refused(Cause::BadNumber, first);
         }
         value += bits << (7 * group);
         // The top bit says that another follows; without it this group is the last.
         if byte < 128 {
             // Only the shortest form is good: no group of 0 behind others.
             if bits == 0 && 0 < group {
-                return refused(Why::BadNumber, first);
+                return refused(Cause::BadNumber, first);
             }
             return Ok((value, Cursor { at }));
         }
     }
     // The fifth byte says that another follows.
-    refused(Why::BadNumber, first)
+    refused(Cause::BadNumber, first)
 }
 
 // The low seven bits: one group.

@@ -5,7 +5,7 @@ use std::fmt;
 
 // A reason to refuse a file, or to refuse to run.
 #[derive(Clone, Copy)]
-pub enum Why {
+pub enum Cause {
     TooLong,
     EndsEarly,
     // Not the shortest spelling, or above 32 bits.
@@ -23,25 +23,25 @@ pub enum Why {
     WrongLength,
 }
 
-impl Why {
-    ghost use Rattle.numbers.specs.Refusals.{number_of};
+impl Cause {
+    ghost use Rattle.numbers.specs.Refusals.{refusal_number};
 
     // The number that 01 gives it.
     pub fn number(self) -> u8
-        ensures { result ≡ number_of self }
+        ensures { result ≡ refusal_number self }
     {
         match self {
-            Why::TooLong => 1,
-            Why::EndsEarly => 2,
-            Why::BadNumber => 3,
-            Why::Version => 4,
-            Why::Count => 5,
-            Why::Field => 6,
-            Why::Surplus => 7,
-            Why::ManyClasses => 8,
-            Why::LargeGlobals => 9,
-            Why::SmallRoom => 10,
-            Why::WrongLength => 11,
+            Cause::TooLong => 1,
+            Cause::EndsEarly => 2,
+            Cause::BadNumber => 3,
+            Cause::Version => 4,
+            Cause::Count => 5,
+            Cause::Field => 6,
+            Cause::Surplus => 7,
+            Cause::ManyClasses => 8,
+            Cause::LargeGlobals => 9,
+            Cause::SmallRoom => 10,
+            Cause::WrongLength => 11,
         }
     }
 }
@@ -49,13 +49,13 @@ impl Why {
 // A reason with the place that goes with it.
 #[derive(Clone, Copy)]
 pub struct Refusal {
-    pub why: Why,
+    pub cause: Cause,
     pub place: usize,
 }
 
 // Number and place, with a blank between.
 impl fmt::Display for Refusal {
     fn fmt<W: fmt::Write>(&self, f: &mut fmt::Formatter<W>) -> fmt::Result {
-        write!(f, "{} {}", self.why.number(), self.place)
+        write!(f, "{} {}", self.cause.number(), self.place)
     }
 }

@@ -1,6 +1,7 @@
 -- The range of each operand, and what the versions differ in where instructions are concerned.
-use Rattle.std.specs.Prelude.{ℕ, List, Bool, true, false, length, get_or, ltb, leb, eqb}
+use Rattle.std.specs.Prelude.{ℕ, List, map, Bool, true, false, length, get_or, ltb, leb, eqb}
 use Rattle.opcodes.specs.declared.Group.{Group}
+use Rattle.opcodes.specs.declared.Object.{Object}
 use Rattle.opcodes.specs.declared.Operand.{Operand}
 use Rattle.opcodes.specs.declared.Scope as declared
 use Rattle.opcodes.specs.Table.{rows, row_of}
@@ -32,6 +33,9 @@ pub record Scope : Type 0 where
   pub kinds : List ℕ
   pub sets : ℕ
   pub code : ℕ
+
+abbrev pub kinds_of : List Object → List ℕ
+kinds_of objects = map (λ o. o.kind) objects
 
 -- the code's scope with the objects' kinds
 abbrev pub scope_over : declared.Scope → (kinds : List ℕ) → Scope

@@ -76,7 +76,16 @@ pub struct Parts {
     pub w: u32,
 }
 
-// What the operands of an instruction may name, beside the objects' kinds.
+// An object of a file: kind 0 is a global with a size, kind 1 a heap site, whose size is 0 here. A file of version 1
+// has no colors: the field is 0.
+#[derive(Clone, Copy)]
+pub struct Object {
+    pub kind: u8,
+    pub size: u16,
+    pub color: u8,
+}
+
+// What the operands of an instruction may name, beside the objects.
 #[derive(Clone, Copy)]
 pub struct Scope {
     pub version: u8,

@@ -7,9 +7,11 @@ use mathlib.Core.List.{List, [], ◌∷◌}
 use mathlib.Core.Bool.{Bool, true, false}
 use lib.ListN.{length}
 use borrow.Author.Tests.{leb-true, leb-false}
-use Rattle.numbers.specs.declared.Refusal.{Refusal}
+use Rattle.numbers.specs.declared.refusal.Cause.{Cause}
+use Rattle.numbers.specs.Refusals.{refusal_number, refusal}
+use Rattle.numbers.specs.declared.refusal.Refusal.{Refusal}
 use Rattle.files.specs.Program.{Program}
-use Rattle.files.specs.Reading.{Reading, whole, refusal, read_file}
+use Rattle.files.specs.Reading.{Reading, whole, read_file}
 use Rattle.files.specs.Writing.{spell_file, Says}
 use Rattle.files.proofs.RoundTrip.{one_spelling, good_of, reads_back}
 use Rattle.refusals.specs.Why.{Why}
@@ -50,14 +52,14 @@ because_refuses bytes room a (Because.unread {q = q'} r) q e =
     let same : q' ≡ q = cc in
     subst (Refuses bytes room) same (Refuses.not_accepted (NotAccepted.unread (refused_why 1 (omega arith) bytes q' r)))
 because_refuses bytes room a (Because.crowded {p} r c) q e =
-    let same : refusal 8 0 ≡ q = cc in
+    let same : refusal Cause.ManyClasses 0 ≡ q = cc in
     subst (Refuses bytes room) same (Refuses.not_accepted (NotAccepted.crowded p (says 1 bytes p r) (leb-false (class_count p) 254 c)))
 because_refuses bytes room a (Because.overfull {p} r c f) q e =
-    let same : refusal 9 0 ≡ q = cc in
+    let same : refusal Cause.LargeGlobals 0 ≡ q = cc in
     subst (Refuses bytes room) same
     (Refuses.not_accepted (NotAccepted.overfull p (says 1 bytes p r) (leb-true (class_count p) 254 c) (leb-false (end_of (plain_pieces p)) 28672 f)))
 because_refuses bytes room a (Because.cramped {p} r c f l) q e =
-    let same : refusal 10 0 ≡ q = cc in
+    let same : refusal Cause.SmallRoom 0 ≡ q = cc in
     let accepted : Accepted p = record { good = (says 1 bytes p r).good; classes = c; fitting = f } in
     subst (Refuses bytes room) same
     (Refuses.cramped p (says 1 bytes p r) accepted (new_file p) (answers.answers bytes 32768 (Because.written r c f (new_file_short p accepted))) l)
@@ -95,8 +97,8 @@ one_to_seven more (suc (suc (suc (suc (suc (suc (suc zero))))))) low high = refl
 one_to_seven more (suc (suc (suc (suc (suc (suc (suc (suc n)))))))) low high = absurd (omega arith)
 
 pub read_listed : (numbers : List ℕ) → ((n : ℕ) → 1 ≤ n → n ≤ 7 → holds numbers n ≡ true) → (version : ℕ) (bytes : List ℕ) (q : Refusal) → Why version bytes q
-    → holds numbers q.number ≡ true
-read_listed numbers all version bytes q w = let l = listed version bytes q w in all q.number l.least l.most
+    → holds numbers (refusal_number q.cause) ≡ true
+read_listed numbers all version bytes q w = let l = listed version bytes q w in all (refusal_number q.cause) l.least l.most
 
 -- a run stops for one of 01's stops
 pub run_listed : (input : List ℕ) (limit : ℕ) (lent : Lent) (p : Program) → holds stop_numbers (number_of (run_program input limit lent p).run.reason) ≡ true
@@ -111,10 +113,10 @@ module _ (bytes input : List ℕ) (limit : ℕ) (lent : Lent) where
   reading_answered (whole p) r = go (fits (pieces_of p.objects)) refl
     where
       go : (b : Bool) → fits (pieces_of p.objects) ≡ b
-          → Answered (RunRefuses bytes lent) run_numbers lent (elim b [ true ↦ run_program input limit lent p | false ↦ refuse lent (refusal 9 0) ])
+          → Answered (RunRefuses bytes lent) run_numbers lent (elim b [ true ↦ run_program input limit lent p | false ↦ refuse lent (refusal Cause.LargeGlobals 0) ])
       go true f = Answered.ended (run_program input limit lent p) (run_listed input limit lent p)
       go false f =
-          Answered.refused (refusal 9 0) (RunRefuses.overfull p (says 2 bytes p r) (leb-false (end_of (pieces_of p.objects)) 28672 f)) refl
+          Answered.refused (refusal Cause.LargeGlobals 0) (RunRefuses.overfull p (says 2 bytes p r) (leb-false (end_of (pieces_of p.objects)) 28672 f)) refl
   reading_answered (Reading.refused q) r =
       let why : Why 2 bytes q = refused_why 2 (omega arith) bytes q r in
       Answered.refused q (RunRefuses.unread why) (read_listed run_numbers (one_to_seven (9 ∷ 11 ∷ [])) 2 bytes q why)
@@ -124,6 +126,6 @@ unfolding run_file holds
 run_is_answered bytes input limit lent = go (exact_lengths lent) refl
   where
     go : (b : Bool) → exact_lengths lent ≡ b
-        → Answered (RunRefuses bytes lent) run_numbers lent (elim b [ true ↦ run_reading input limit lent (read_file 2 bytes) | false ↦ refuse lent (refusal 11 0) ])
+        → Answered (RunRefuses bytes lent) run_numbers lent (elim b [ true ↦ run_reading input limit lent (read_file 2 bytes) | false ↦ refuse lent (refusal Cause.WrongLength 0) ])
     go true e = reading_answered bytes input limit lent (read_file 2 bytes) refl
-    go false e = Answered.refused (refusal 11 0) (RunRefuses.lengths e) refl
+    go false e = Answered.refused (refusal Cause.WrongLength 0) (RunRefuses.lengths e) refl

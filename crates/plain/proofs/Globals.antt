@@ -10,7 +10,7 @@ use lib.ListN.{length, get_or, length-append}
 use lib.Seq.{get_or_at}
 use lib.Dec.{eqb}
 use borrow.Author.Tests.{eq-eqb, eqb-true, leb-true}
-use Rattle.files.specs.declared.Object.{Object}
+use Rattle.opcodes.specs.declared.Object.{Object}
 use Rattle.files.specs.Program.{Program}
 use Rattle.opcodes.specs.View.{extent}
 use Rattle.safety.specs.Unsafe.{unsafe_sets, size_of}

@@ -1,9 +1,11 @@
 -- What has to be proved, as types. Each of them has a theorem of exactly that type (docs/PROMISES.md).
 use Rattle.std.specs.Prelude.{ℕ, ◌^◌, ◌≤◌, ◌<◌, ◌≡◌, List, [], ◌∷◌, ◌++◌, true, false, length, get_or}
-use Rattle.numbers.specs.declared.Refusal.{Refusal}
+use Rattle.numbers.specs.declared.refusal.Cause.{Cause}
+use Rattle.numbers.specs.Refusals.{refusal_number, refusal}
+use Rattle.numbers.specs.declared.refusal.Refusal.{Refusal}
 use Rattle.opcodes.specs.View.{Aim, store, check, view}
 use Rattle.files.specs.Program.{Program}
-use Rattle.files.specs.Reading.{whole, refusal, read_file}
+use Rattle.files.specs.Reading.{whole, read_file}
 use Rattle.files.specs.Writing.{spell_file, Says}
 use Rattle.refusals.specs.Why.{Why}
 use Rattle.safety.specs.Unsafe.{Unsafe, unsafe_in}
@@ -58,14 +60,14 @@ StopsOnce = (S : Type 0) (rule : Rule S) (given : Given) (own : S) (a b : Stops 
 -- why a routine is not accepted: it does not read; more than 254 classes; globals that end above 28,672
 pub data NotAccepted (bytes : List ℕ) : Refusal → Type 0 where
   unread : {q : Refusal} → Why 1 bytes q → NotAccepted bytes q
-  crowded : (p : Program) → Says 1 bytes p → 254 < class_count p → NotAccepted bytes (refusal 8 0)
-  overfull : (p : Program) → Says 1 bytes p → class_count p ≤ 254 → 28672 < end_of (plain_pieces p) → NotAccepted bytes (refusal 9 0)
+  crowded : (p : Program) → Says 1 bytes p → 254 < class_count p → NotAccepted bytes (refusal Cause.ManyClasses 0)
+  overfull : (p : Program) → Says 1 bytes p → class_count p ≤ 254 → 28672 < end_of (plain_pieces p) → NotAccepted bytes (refusal Cause.LargeGlobals 0)
 
 -- why it is not instrumented: that, or version 2 is longer than the room
 pub data Refuses (bytes : List ℕ) (room : ℕ) : Refusal → Type 0 where
   not_accepted : {q : Refusal} → NotAccepted bytes q → Refuses bytes room q
   cramped : (p : Program) → Says 1 bytes p → Accepted p → (out : List ℕ) → instrument bytes 32768 ≡ file out → room < length out
-      → Refuses bytes room (refusal 10 0)
+      → Refuses bytes room (refusal Cause.SmallRoom 0)
 
 abbrev pub RefusedOnlyFor : Type 0
 RefusedOnlyFor = (bytes room : List ℕ) (q : Refusal) → instrument bytes (length room) ≡ FileAnswer.refused q
@@ -84,9 +86,9 @@ AcceptedIsWritten = (p : Program) → Accepted p → (room : ℕ) → 32768 ≤ 
 
 -- why a file is not run: lengths; it does not read; globals that end above 28,672
 pub data RunRefuses (bytes : List ℕ) (lent : Lent) : Refusal → Type 0 where
-  lengths : exact_lengths lent ≡ false → RunRefuses bytes lent (refusal 11 0)
+  lengths : exact_lengths lent ≡ false → RunRefuses bytes lent (refusal Cause.WrongLength 0)
   unread : {q : Refusal} → Why 2 bytes q → RunRefuses bytes lent q
-  overfull : (p : Program) → Says 2 bytes p → 28672 < end_of (pieces_of p.objects) → RunRefuses bytes lent (refusal 9 0)
+  overfull : (p : Program) → Says 2 bytes p → 28672 < end_of (pieces_of p.objects) → RunRefuses bytes lent (refusal Cause.LargeGlobals 0)
 
 -- "Stops: 0 END; 30 past the end; ..; 38 unsound heap"
 abbrev pub stop_numbers : List ℕ
@@ -98,7 +100,7 @@ run_numbers = 1 ∷ 2 ∷ 3 ∷ 4 ∷ 5 ∷ 6 ∷ 7 ∷ 9 ∷ 11 ∷ []
 
 -- "A refusal changes no lent byte and has zeros in its other fields"; every other answer is a stop's
 pub data Answered (Refused : Refusal → Type 0) (numbers : List ℕ) (lent : Lent) : running.Answer → Type 0 where
-  refused : (q : Refusal) → Refused q → holds numbers q.number ≡ true → Answered Refused numbers lent (refuse lent q)
+  refused : (q : Refusal) → Refused q → holds numbers (refusal_number q.cause) ≡ true → Answered Refused numbers lent (refuse lent q)
   ended : (a : running.Answer) → holds stop_numbers (number_of a.run.reason) ≡ true → Answered Refused numbers lent a
 
 abbrev pub RunIsAnswered : Type 0

@@ -1,7 +1,7 @@
 -- The plain rule: "a store completes exactly when it is safe, or every byte of it lies in a live object
 -- of its class". It knows objects and places, and has no colors and no table.
 use Rattle.std.specs.Prelude.{ℕ, ◌+◌, List, [], ◌∷◌, ◌++◌, Bool, true, false, get_or, eqb}
-use Rattle.files.specs.declared.Object.{Object}
+use Rattle.opcodes.specs.declared.Object.{Object}
 use Rattle.files.specs.Program.{Program}
 use Rattle.opcodes.specs.View.{View, extent}
 use Rattle.safety.specs.Unsafe.{Unsafe, unsafe_in, unsafe_sets}

@@ -5,9 +5,11 @@ use mathlib.Core.Path.{◌≡◌, refl, ap, ◌∙◌}
 use mathlib.Core.List.{List, [], ◌∷◌, ◌++◌}
 use mathlib.Core.Bool.{Bool, true, false}
 use lib.ListN.{length, get_or, take, drop}
+use Rattle.numbers.specs.declared.refusal.Cause.{Cause}
+use Rattle.numbers.specs.Refusals.{refusal}
 use Rattle.numbers.specs.Number.{read_groups, groups}
 use Rattle.files.specs.Program.{Program}
-use Rattle.files.specs.Reading.{whole, refusal, follow, many, members_plan, read_file}
+use Rattle.files.specs.Reading.{whole, follow, many, members_plan, read_file}
 use Rattle.files.specs.Writing.{spell_file, spell_all}
 use Rattle.safety.specs.Unsafe.{sets_in}
 use Rattle.coloring.specs.Class.{holds, some, meets, join, classes_of}
@@ -45,7 +47,7 @@ run_read : (bytes : List ℕ) (p : Program) → read_file 2 (version_two bytes) 
 unfolding run_file
 run_read bytes p e f =
     ap (run_reading [] 100 zeros) e
-    ∙ ap (λ (b : Bool). elim b [ true ↦ run_program [] 100 zeros p | false ↦ refuse zeros (refusal 9 0) ]) f
+    ∙ ap (λ (b : Bool). elim b [ true ↦ run_program [] 100 zeros p | false ↦ refuse zeros (refusal Cause.LargeGlobals 0) ]) f
 
 -- how many numbers were put out, and the numbers
 put_out : Outcome (List ℕ) → List ℕ

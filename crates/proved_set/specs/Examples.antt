@@ -1,11 +1,13 @@
 -- 01, "Checked examples (1 to 12 are the proved set)": one table. A row has what the definitions
 -- compute, and what 01 states.
+use Rattle.std.specs.Prelude.{Ok, Err}
 use Rattle.std.specs.Prelude.{ℕ, ◌+◌, ◌≡◌, List, [], ◌∷◌, ◌++◌, map, Bool, true, false, length, take, drop, replicate}
-use Rattle.numbers.specs.declared.Read.{Read}
+use Rattle.numbers.specs.Refusals.{refusal_number}
+use Rattle.numbers.specs.Number.{Read}
 use Rattle.numbers.specs.Number.{read_number}
 use Rattle.opcodes.specs.declared.Instr.{Instr}
 use Rattle.opcodes.specs.View.{in_global, four, extent}
-use Rattle.files.specs.declared.Object.{Object}
+use Rattle.opcodes.specs.declared.Object.{Object}
 use Rattle.files.specs.Program.{Program}
 use Rattle.files.specs.Reading.{Reading, whole, read_file}
 use Rattle.files.specs.Writing.{spell_file}
@@ -28,7 +30,7 @@ bytes_in (FileAnswer.refused q) = []
 -- the length of a file that was written, or the refusal's number and place
 abbrev pub answer_in : FileAnswer → List ℕ
 answer_in (file bytes) = length bytes ∷ []
-answer_in (FileAnswer.refused q) = q.number ∷ q.place ∷ []
+answer_in (FileAnswer.refused q) = refusal_number q.cause ∷ q.place ∷ []
 
 -- version 2 of a version 1 file
 abbrev pub version_two : (bytes : List ℕ) → List ℕ
@@ -138,8 +140,8 @@ colors_at q addresses = let table = first_table q in map (color_at table) addres
 
 -- the value of a number and the next cursor, or the refusal's number and place
 abbrev pub value_of : Read → List ℕ
-value_of (Read.Number n next) = n ∷ next.at ∷ []
-value_of (Read.Refused q) = q.number ∷ q.place ∷ []
+value_of (Ok (n, next)) = n ∷ next.at ∷ []
+value_of (Err q) = refusal_number q.cause ∷ q.place ∷ []
 
 abbrev pub one_if : Bool → List ℕ
 one_if true = 1 ∷ []

@@ -13,8 +13,9 @@ use lib.ListN.{length, get_or, take, drop, length-append, length-drop, take-appe
 use lib.Seq.{drop-append-le, drop-append_seam, take-append_seam, take_all, take-take, length-take-le, get_or-drop}
 use lib.Dec.{ltb, leb}
 use borrow.Author.Tests.{lt-ltb, le-ltb}
+use Rattle.std.specs.Prelude.{Ok}
 use Rattle.numbers.specs.declared.Cursor.{Cursor}
-use Rattle.numbers.specs.declared.Read.{Read}
+use Rattle.numbers.specs.Number.{Read}
 use Rattle.numbers.specs.Number.{spell, width, read_groups, read_number, ends_early, bad_number, largest, shortest}
 use Rattle.numbers.proofs.Laws.{read_bounds, one_spelling, reads_back}
 use Rattle.refusals.specs.Why.{Begins, NoNumberBegins, part}
@@ -23,7 +24,7 @@ use Rattle.refusals.proofs.Agreeing.{begins_behind, Agrees, agrees_itself, agree
 -- how the number at a place is read: it is a number; or the file ends inside the beginning of one; or its
 -- bytes up to an end are the beginning of none, and every file with the same bytes up to there is refused
 pub data Told (file : List ℕ) (first : ℕ) : Type 0 where
-  fine : (n : ℕ) (c : Cursor) → read_number file first ≡ Read.Number n c → Told file first
+  fine : (n : ℕ) (c : Cursor) → read_number file first ≡ Ok (n, c) → Told file first
   early : (n : ℕ) → n ≤ 4294967295 → Begins (drop first file) (spell n) → length file < first + width n
       → read_number file first ≡ ends_early file → Told file first
   bad : (end : ℕ) → first < end → end ≤ length file
@@ -40,7 +41,7 @@ turn left l first i value byte allowed final short =
             | true ↦
                 elim short [
                   | false ↦ bad_number first
-                  | true ↦ Read.Number (value + byte * 2 ^ (7 * i)) (record { at = first + i + 1 })
+                  | true ↦ Ok (value + byte * 2 ^ (7 * i), record { at = first + i + 1 })
                 ]
           ]
     ]
@@ -81,7 +82,7 @@ module _ (file : List ℕ) (first : ℕ) where
       let one : get_or longer (first + i) 0 ≡ 1 =
       ap (λ (k : ℕ). get_or longer k 0) (sym seam) ∙ sym (get_or-drop (length file) longer 0 0)
       ∙ ap (λ (l : List ℕ). get_or l 0 0) (drop-append_seam file (1 ∷ [])) in
-      let read : read_number longer first ≡ Read.Number (value + 1 * 2 ^ (7 * i)) (record { at = first + i + 1 }) =
+      let read : read_number longer first ≡ Ok (value + 1 * 2 ^ (7 * i), record { at = first + i + 1 }) =
       rests longer (agrees_more file (omega arith) (1 ∷ [])) ∙ turned left first i value longer 1 (omega arith) one
       ∙ ap (λ (t : Bool). turn left longer first i value 1 t true true) (one_allowed (ltb i 4)) in
       let (behind, inside, small, wide) = read_bounds longer first read in

@@ -13,16 +13,19 @@ use lib.ListN.{length, take, drop}
 use lib.Seq.{take-add, drop_at, take_all, length-take-le}
 use lib.Dec.{leb, eqb}
 use borrow.Author.Tests.{leb-true, leb-false, eqb-false, eq-eqb}
+use Rattle.std.specs.Prelude.{Ok, Err}
+use Rattle.numbers.specs.declared.refusal.Cause.{Cause}
+use Rattle.numbers.specs.Refusals.{refusal}
 use Rattle.numbers.specs.declared.Cursor.{Cursor}
-use Rattle.numbers.specs.declared.Refusal.{Refusal}
-use Rattle.numbers.specs.declared.Read.{Read}
+use Rattle.numbers.specs.declared.refusal.Refusal.{Refusal}
+use Rattle.numbers.specs.Number.{Read}
 use Rattle.numbers.specs.Number.{spell, width, read_number, bad_number}
 use Rattle.numbers.proofs.Laws.{read_bounds, read_prefix}
 use Rattle.numbers.proofs.Laws as numbers
 use Rattle.opcodes.specs.Ranges.{within}
 use Rattle.opcodes.proofs.Bounds.{within_true}
 use Rattle.files.specs.Program.{Program, longest}
-use Rattle.files.specs.Reading.{refusal, judge, judged, Reading, whole, Sort, count, field, refused_with, Plan, done, ask, on, follow, file_plan, read_file}
+use Rattle.files.specs.Reading.{judge, judged, Reading, whole, Sort, count, field, refused_with, Plan, done, ask, on, follow, file_plan, read_file}
 use Rattle.files.proofs.Following.{read_by_plan}
 use Rattle.files.specs.Writing.{good_program, spell_file}
 use Rattle.files.proofs.RoundTrip.{good_of, reads_back, one_spelling}
@@ -35,7 +38,7 @@ number_bounds count = omega arith
 number_bounds field = omega arith
 
 -- a number that is read stands in the file as it is spelled
-stands : (file : List ℕ) (at : ℕ) {n : ℕ} {c : Cursor} → read_number file at ≡ Read.Number n c → part file at (at + width n) ≡ spell n
+stands : (file : List ℕ) (at : ℕ) {n : ℕ} {c : Cursor} → read_number file at ≡ Ok (n, c) → part file at (at + width n) ≡ spell n
 stands file at {n} r =
     let bounds = read_bounds file at r in
     ap (drop at) (take-add at (width n) file)
@@ -91,8 +94,8 @@ module _ (version : ℕ) (small : version < 2 ^ 32) (file : List ℕ) (fits : le
         answered h r e other short agrees =
             others other short (agrees_earlier agrees at h) ∙ ap (λ (x : Read). on (judge why at test x) (next other)) (e other agrees)
 
-        tested : (n : ℕ) (c : Cursor) → read_number file at ≡ Read.Number n c → (t : Bool) → test n ≡ t
-            → Others c.at (λ other. on (elim t [ true ↦ Read.Number n c | false ↦ Read.Refused (refusal why at) ]) (next other)) → Why version file q
+        tested : (n : ℕ) (c : Cursor) → read_number file at ≡ Ok (n, c) → (t : Bool) → test n ≡ t
+            → Others c.at (λ other. on (elim t [ true ↦ Ok (n, c) | false ↦ Err (refusal why at) ]) (next other)) → Why version file q
         tested n c r true is read = more n c.at (read_bounds file at r).1 read
         tested n c r false is read =
             let (behind, ends, less, wide) = read_bounds file at r in
@@ -102,13 +105,13 @@ module _ (version : ℕ) (small : version < 2 ^ 32) (file : List ℕ) (fits : le
         go : Told file at → Why version file q
         go (Told.fine n c r) =
             tested n c r (test n) refl
-            (answered (omega (arith, (read_bounds file at r).0)) (Read.Number n c) (λ other agrees. read_prefix file other at agrees.same agrees.long r))
+            (answered (omega (arith, (read_bounds file at r).0)) (Ok (n, c)) (λ other agrees. read_prefix file other at agrees.same agrees.long r))
         go (Told.early n least begun short e) =
             for (ap (λ (x : Read). on (judge why at test x) (next file)) (sym e) ∙ itself inside others)
             (early at n inside least begun short longer)
         go (Told.bad end some ends bad) =
             let read = answered (omega arith) (bad_number at) bad in
-            for (itself ends read) (not_a_number at end some ends (begins_none file at end some ends bad) (none_begins (refusal 3 at) ends read))
+            for (itself ends read) (not_a_number at end some ends (begins_none file at end some ends bad) (none_begins (refusal Cause.BadNumber at) ends read))
 
     -- a plan from the place reached on
     walk : (plan : Plan) (at : ℕ) → at ≤ length file → Others at (λ other. follow plan other at) → Why version file q
@@ -116,14 +119,14 @@ module _ (version : ℕ) (small : version < 2 ^ 32) (file : List ℕ) (fits : le
     walk (done p) at inside others = go (eqb at (length file)) refl (itself inside others)
       where
         go : (t : Bool) → eqb at (length file) ≡ t
-            → elim t as (λ _. Reading) [ true ↦ whole p | false ↦ Reading.refused (refusal 7 at) ] ≡ Reading.refused q → Why version file q
+            → elim t as (λ _. Reading) [ true ↦ whole p | false ↦ Reading.refused (refusal Cause.Surplus at) ] ≡ Reading.refused q → Why version file q
         go true is e = let z : ◌≡◌ {A = ℕ} 0 1 = cc in absurd (omega arith)
         go false is e =
             let long : length (take at file) ≡ at = length-take-le at file inside in
             let ends : eqb at (length (take at file)) ≡ true = eq-eqb at (length (take at file)) (sym long) in
             let read : read_file version (take at file) ≡ whole p =
             others (take at file) (omega arith) (agrees_cut file inside)
-            ∙ ap (λ (t : Bool). elim t as (λ _. Reading) [ true ↦ whole p | false ↦ Reading.refused (refusal 7 at) ]) ends in
+            ∙ ap (λ (t : Bool). elim t as (λ _. Reading) [ true ↦ whole p | false ↦ Reading.refused (refusal Cause.Surplus at) ]) ends in
             let spelled = one_spelling version (take at file) p read in
             let before : at ≡ length file → ⊥ = eqb-false at (length file) is in
             for e (surplus at p (omega arith) spelled)
@@ -152,6 +155,6 @@ refused_why version small file q e = go (leb (length file) (longest version)) re
         (rw zero-add at none))
         (λ n behind ends rest. walk version small file fits q e (file_plan version) behind ends rest)
     go false is =
-        let answer : Reading.refused (refusal 1 0) ≡ Reading.refused q = rw (is, read_file) at e in
-        let same : refusal 1 0 ≡ q = cc in
+        let answer : Reading.refused (refusal Cause.TooLong 0) ≡ Reading.refused q = rw (is, read_file) at e in
+        let same : refusal Cause.TooLong 0 ≡ q = cc in
         subst (Why version file) same (too_long (leb-false (length file) (longest version) is))

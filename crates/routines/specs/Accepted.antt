@@ -1,8 +1,10 @@
 -- Which routines are accepted, without colors: at most 254 classes, and globals that fit.
 use Rattle.std.specs.Prelude.{ℕ, ◌+◌, ◌≡◌, List, [], ◌∷◌, Bool, true, false, not}
-use Rattle.files.specs.declared.Object.{Object}
+use Rattle.numbers.specs.declared.refusal.Cause.{Cause}
+use Rattle.numbers.specs.Refusals.{refusal}
+use Rattle.opcodes.specs.declared.Object.{Object}
 use Rattle.files.specs.Program.{Program}
-use Rattle.files.specs.Reading.{Reading, whole, refusal, on_whole}
+use Rattle.files.specs.Reading.{Reading, whole, on_whole}
 use Rattle.files.specs.Writing.{good_program}
 use Rattle.safety.specs.Unsafe.{unsafe_sets}
 use Rattle.coloring.specs.Class.{unsafe_object}
@@ -23,7 +25,7 @@ abbrev pub globals_fit : Program → Bool
 globals_fit p = fits (plain_pieces p)
 
 abbrev pub laid_out : Program → Reading
-laid_out p = elim (globals_fit p) [ true ↦ whole p | false ↦ Reading.refused (refusal 9 0) ]
+laid_out p = elim (globals_fit p) [ true ↦ whole p | false ↦ Reading.refused (refusal Cause.LargeGlobals 0) ]
 
 -- "then the file from left to right, then 8 and 9"
 abbrev pub accepted : Reading → Reading

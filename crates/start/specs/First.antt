@@ -1,6 +1,6 @@
 -- "Memory and table are cleared and laid out at the start": what both then hold.
 use Rattle.std.specs.Prelude.{ℕ, ◌+◌, List, [], ◌∷◌, true, false, replicate, eqb}
-use Rattle.files.specs.declared.Object.{Object}
+use Rattle.opcodes.specs.declared.Object.{Object}
 use Rattle.files.specs.Program.{Program}
 use Rattle.opcodes.specs.View.{extent}
 use Rattle.layout.specs.Layout.{Piece, pieces_of, start_of}

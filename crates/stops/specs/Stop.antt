@@ -1,6 +1,7 @@
 -- 01, "Numbers that come back": the number of each way to stop, and what a stop's record holds.
 use Rattle.std.specs.Prelude.{ℕ, ◌+◌, List, [], ◌∷◌, take}
-use Rattle.numbers.specs.declared.Refusal.{Refusal}
+use Rattle.numbers.specs.Refusals.{refusal_number}
+use Rattle.numbers.specs.declared.refusal.Refusal.{Refusal}
 use Rattle.opcodes.specs.declared.Instr.{Instr}
 use Rattle.opcodes.specs.View.{View, act, jump, jump_if, store, check, view}
 use Rattle.stops.specs.declared.Reason.{Reason}
@@ -20,7 +21,7 @@ number_of Reason.StoreOutside = 35
 number_of Reason.Forbidden = 36
 number_of Reason.BadFree = 37
 number_of Reason.Unsound = 38
-number_of (Reason.Refused q) = q.number
+number_of (Reason.Refused q) = refusal_number q.cause
 
 -- "for a refusal, number and place": the place that goes with a record's number
 abbrev pub place_for : Reason → (place : ℕ) → ℕ

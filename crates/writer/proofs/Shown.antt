@@ -11,7 +11,8 @@ use borrow.Author.Tests.{le-leb, lt-leb, leb-true}
 use Rattle.numbers.specs.Number.{spell, width}
 use Rattle.files.specs.declared.Line.{Line}
 use Rattle.opcodes.specs.Ranges.{within, scope_over}
-use Rattle.files.specs.Program.{Program, kinds_of}
+use Rattle.files.specs.Program.{Program}
+use Rattle.opcodes.specs.Ranges.{kinds_of}
 use Rattle.files.specs.Writing.{spell_all, spell_object, spell_instr, spell_file, every, both, good_object, good_instr, scope_of, good_program}
 use Rattle.files.specs.Held.{tabulate}
 use Rattle.writer.specs.Inside.{object_in, shown_in, sayable}

@@ -1,6 +1,6 @@
 -- What the functions inside the crate promise one another, where it is no sentence of 01.
 use Rattle.std.specs.Prelude.{ℕ, List, [], map, Bool, true, false, length, get_or, take, leb}
-use Rattle.files.specs.declared.Object.{Object}
+use Rattle.opcodes.specs.declared.Object.{Object}
 use Rattle.opcodes.specs.declared.Instr.{Instr}
 use Rattle.files.specs.declared.Line.{Line}
 use Rattle.opcodes.specs.Ranges.{Scope}

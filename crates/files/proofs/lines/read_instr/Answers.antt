@@ -3,12 +3,12 @@
 use mathlib.Core.Path.{◌≡◌, refl, sym, ap, ◌∙◌}
 use mathlib.Core.List.{List, [], ◌∷◌}
 use Prim.Native.Nat.{ℕ}
+use Rattle.std.specs.Prelude.{Ok}
 use Rattle.numbers.specs.declared.Cursor.{Cursor}
-use Rattle.numbers.specs.declared.Read.{Read}
+use Rattle.numbers.specs.Number.{Read}
 use Rattle.instructions.proofs.Whole.{made_whole}
 use Rattle.opcodes.specs.declared.Row.{Row}
 use Rattle.opcodes.specs.declared.Instr.{Instr}
-use Rattle.files.specs.declared.InstrRead.{InstrRead}
 use Rattle.opcodes.specs.Table.{row_of, make}
 use Rattle.opcodes.specs.Ranges.{scope_over}
 use Rattle.files.proofs.OneInstr.{an_opcode, an_operand, by_row, operand_fits}
@@ -30,13 +30,13 @@ returns c =
     let past2 : Cursor = c.in-Number-second.past_second in
     let past3 : Cursor = c.in-Number-third.past_third in
     let opcode = an_opcode scope file _ (sym c.opcode_at-opcode.ensures ∙ c.in-Number.is) in
-    let first : operand_at scope row.first file past0.at ≡ Read.Number x past1 =
+    let first : operand_at scope row.first file past0.at ≡ Ok (x, past1) =
     by_row c.row_of-row.ensures (λ r. r.first) _ _ _ c.operand_at-first.ensures c.in-Number-first.is in
-    let second : operand_at scope row.second file past1.at ≡ Read.Number y past2 =
+    let second : operand_at scope row.second file past1.at ≡ Ok (y, past2) =
     by_row c.row_of-row.ensures (λ r. r.second) _ _ _ c.operand_at-second.ensures c.in-Number-second.is in
-    let third : operand_at scope row.third file past2.at ≡ Read.Number z past3 =
+    let third : operand_at scope row.third file past2.at ≡ Ok (z, past3) =
     by_row c.row_of-row.ensures (λ r. r.third) _ _ _ c.operand_at-third.ensures c.in-Number-third.is in
-    let fourth : operand_at scope row.fourth file past3.at ≡ Read.Number w c.in-Number-fourth.next =
+    let fourth : operand_at scope row.fourth file past3.at ≡ Ok (w, c.in-Number-fourth.next) =
     by_row c.row_of-row.ensures (λ r. r.fourth) _ _ _ c.operand_at-fourth.ensures c.in-Number-fourth.is in
     let reads =
     opcode
@@ -44,7 +44,7 @@ returns c =
     ∙ an_operand scope file row.second (row.third ∷ row.fourth ∷ []) past1 (λ ns. make op (x ∷ ns)) second
     ∙ an_operand scope file row.third (row.fourth ∷ []) past2 (λ ns. make op (x ∷ y ∷ ns)) third
     ∙ an_operand scope file row.fourth [] past3 (λ ns. make op (x ∷ y ∷ z ∷ ns)) fourth in
-    ap (λ (i : Instr). InstrRead.Instr i c.in-Number-fourth.next)
+    ap (λ (i : Instr). Ok (i, c.in-Number-fourth.next))
     (c.instr_of.ensures
     ∙ made_whole op (x ∷ y ∷ z ∷ w ∷ []) refl
     (operand_fits c.args.scope c.args.kinds.now c.requires row.first file past0.at first, (operand_fits c.args.scope c.args.kinds.now c.requires row.second file past1.at second, (operand_fits c.args.scope c.args.kinds.now c.requires row.third file past2.at third, (operand_fits c.args.scope c.args.kinds.now c.requires row.fourth file past3.at fourth, tt)))))

@@ -2,7 +2,7 @@ use mathlib.Core.Path.{subst}
 use mathlib.Core.List.{List, ◌∷◌}
 use Prim.Native.Nat.{ℕ, ◌+◌, ◌-◌, ◌<◌}
 use native.Mathlib.Omega.{arith}
-use Rattle.files.specs.declared.Object.{Object}
+use Rattle.opcodes.specs.declared.Object.{Object}
 use Rattle.files.specs.Writing.{good_object, spell_object}
 use Rattle.files.specs.Held.{tabulate}
 use Rattle.writer.specs.Inside.{object_in}

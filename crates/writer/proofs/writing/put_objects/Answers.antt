@@ -1,7 +1,7 @@
 use mathlib.Core.Path.{subst}
 use mathlib.Core.List.{List}
 use native.Mathlib.Omega.{arith}
-use Rattle.files.specs.declared.Object.{Object}
+use Rattle.opcodes.specs.declared.Object.{Object}
 use Rattle.files.specs.Writing.{spell_object}
 use Rattle.files.specs.Held.{tabulate}
 use Rattle.writer.specs.Inside.{object_in}

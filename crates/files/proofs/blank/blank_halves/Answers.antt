@@ -1,5 +1,0 @@
-use Rattle.files.proofs.Filled.{filled_none}
-use Rattle.files.proofs.blank.blank_halves.Goals as goal
-
-pub returns : goal.returns
-returns c = filled_none 400 0
