@@ -22,8 +22,7 @@ pub fn is_color(n: u32) -> bool
 fn is_kind(kinds: &[u8], kind: u8, g: u32) -> bool
     ensures { result ≡ is_kind kinds.now kind g }
 {
-    let at = g as usize;
-    at < kinds.len() && kinds[at] == kind
+    kinds.get(g as usize) == Some(&kind)
 }
 
 // Whether a number is in the range of an operand.
