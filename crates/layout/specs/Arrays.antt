@@ -1,8 +1,13 @@
 -- The layout of objects that are held in arrays: what the contract of `lay_out` says. No demand cites it.
-use Rattle.std.specs.Prelude.{ℕ, min, List, length, get_or, eqb}
-use Rattle.files.specs.Held.{filled, tabulate}
+use Rattle.std.specs.Prelude.{ℕ, zero, suc, ◌+◌, min, List, [], ◌∷◌, length, get_or, eqb}
+use Rattle.files.specs.Held.{filled}
 use Rattle.layout.specs.declared.Layout.{Layout}
 use Rattle.layout.specs.Layout.{Piece, start_of, end_of}
+
+-- what f gives for the numbers from `from` on, n of them
+unfoldable pub tabulate : {A : Type 0} → (ℕ → A) → (from n : ℕ) → List A
+tabulate f from zero = []
+tabulate f from (suc n) = f from ∷ tabulate f (from + 1) n
 
 -- object g of the arrays
 abbrev pub piece_at : (kinds sizes colors : List ℕ) → (g : ℕ) → Piece
