@@ -6,11 +6,10 @@ use mathlib.Core.Bool.{Bool, true, false}
 use mathlib.Core.List.{List}
 use native.Mathlib.Nat.{not-suc-le-zero, le_of_suc-le-suc}
 use native.Mathlib.Omega.{arith}
-use lib.ListN.{length, get_or}
+use lib.ListN.{get_or}
 use lib.Dec.{eqb}
-use borrow.Author.Tests.{le-leb, lt-leb, lt-ltb, le-ltb, eq-eqb, ne_eqb, eqb-true, eqb-false}
-use Rattle.memory.specs.Memory.{memory_size, slot, color_at, has_color, every_byte, paint}
-use Rattle.memory.specs.Lent.{painted}
+use borrow.Author.Tests.{lt-ltb, le-ltb, eq-eqb, ne_eqb, eqb-true, eqb-false}
+use Rattle.memory.specs.Memory.{memory_size, slot, color_at, has_color, every_byte}
 
 -- a byte that fails decides
 pub every_fails : (n : ℕ) (test : ℕ → Bool) (a k : ℕ) → k < n → test (a + k) ≡ false → every_byte n test a ≡ false
@@ -85,12 +84,3 @@ module _ (t : List ℕ) (color : ℕ) where
           go false q =
               ap (λ x. eqb x color) e ∙ q
               ∙ sym (every_fails n (has_color t color) a (n - 1) (omega arith) (ap (has_color t color) at ∙ inside_slot last inside ∙ q))
-
--- ---- painting any table
-
-module _ (t : List ℕ) (a n color : ℕ) where
-  pub painted_inside : (after : List ℕ) → slot a + slot n ≤ length t → after ≡ paint t a n color → after ≡ painted t a n color
-  painted_inside after h e = rw (le-leb (slot a + slot n) (length t) h, painted) e
-
-  pub painted_outside : length t < slot a + slot n → t ≡ painted t a n color
-  painted_outside h = rw (lt-leb (slot a + slot n) (length t) h, painted) refl

@@ -11,7 +11,7 @@ pub fn fill(part: &mut [u8], value: u8)
     part.fill(value);
 }
 
-// LOAD8 and LOAD32: nothing where one of the bytes lies outside. The end is counted in 64 bits, so that it cannot wrap.
+// LOAD8 and LOAD32: none where one of the bytes lies outside. The end is counted in 64 bits, so that it cannot wrap.
 pub fn load<W: Width>(memory: &[u8], address: u32) -> Option<u32>
     ensures { result ≡ loaded W.bytes memory.now address }
 {
@@ -26,7 +26,7 @@ pub fn number_at(memory: &[u8], address: u32) -> u32
     load::<Four>(memory, address).unwrap_or(0)
 }
 
-// A store of the low bytes: false, and nothing is changed, where one of them lies outside.
+// A store of the low bytes: false, and nothing is changed, where one of them would lie outside.
 pub fn store<W: Width>(memory: &mut [u8], address: u32, value: u32) -> bool
     ensures value { result ≡ within W.bytes memory.old address }
     ensures memory_after { memory.new ≡ stored W.bytes memory.old address value }

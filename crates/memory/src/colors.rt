@@ -8,20 +8,22 @@ use crate::bytes::fill;
 use crate::widths::Width;
 
 // The color of an address; a table that is too short has 0 there.
+#[tactic(auto, unfolding(crate::specs::Memory::color_at))]
 fn color_at(table: &[u8], address: usize) -> u8
     ensures { result ≡ color_at table.now address }
 {
     table.get(address >> 3).copied().unwrap_or(0)
 }
 
-// CHECK8 and CHECK32: each byte lies in memory, in a slot of the color. They touch at most two slots,
+// CHECK8 and CHECK32: each byte lies in memory, in a slot of the color. Four bytes touch at most two slots,
 // so the first and the last byte decide. The last address is counted in 64 bits and cannot wrap.
 pub fn check<W: Width>(table: &[u8], address: u32, color: u8) -> bool
     ensures { result ≡ every_byte W.bytes (has_color table.now color) address }
 {
     let at = address as usize;
     let last = at + W::bytes() - 1;
-    last < MEMORY && color_at(table, at) == color && color_at(table, last) == color
+    let inside = last < MEMORY;
+    inside && color_at(table, at) == color && color_at(table, last) == color
 }
 
 // The slots of `count` bytes from an address on are lent on to be filled with a color.

@@ -1,29 +1,31 @@
-// How wide a load, a store or a check is: one byte or four.
+// How many bytes a load, a store or a check covers: one or four. What is read and written stands at the front of a
+// part of memory, low byte first.
 ghost use Rattle.std.specs.Prelude.{◌≡◌, ℕ, ◌≤◌};
 ghost use Rattle.std.proofs.Common.{lit≤};
-ghost use Rattle.memory.specs.Lent.{within, loaded, stored};
+ghost use Rattle.memory.specs.Lent.{loaded, stored};
 
 pub trait Width {
     ghost bytes: { ℕ };
 
-    // How many bytes it covers.
     fn bytes() -> usize
         ensures { result ≡ bytes };
 
-    // The number that stands at the front of a part, low byte first, where the part is long enough.
+    // The number at the front of a part; none where the part is too short.
     fn read(part: &[u8]) -> Option<u32>
         ensures { result ≡ loaded bytes part.now 0 };
 
-    // The low bytes of a number are put at the front of a part, where it is long enough.
+    // The low bytes of a number are put at the front of a part; a part that is too short is left as it is.
     fn write(part: &mut [u8], value: u32)
         ensures { part.new ≡ stored bytes part.old 0 value };
 
     ghost few: { (1 ≤ bytes) × (bytes ≤ 4) };
 }
 
+// LOAD8, CHECK8 and the stores of one byte.
 #[derive(Clone, Copy)]
 pub struct One;
 
+// LOAD32, CHECK32 and the stores of four bytes.
 #[derive(Clone, Copy)]
 pub struct Four;
 
@@ -47,6 +49,7 @@ impl Width for One {
     }
 }
 
+// Written flat, so that the compiler makes one access of the four.
 impl Width for Four {
     ghost bytes = { 4 };
 

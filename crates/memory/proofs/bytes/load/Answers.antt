@@ -1,5 +1,4 @@
 -- `memory::bytes::load` meets its contract. What is read from the part that is lent is what stands there.
-use Prim.Native.Nat.{◌+◌, ◌-◌}
 use mathlib.Core.Path.{◌∙◌}
 use native.Mathlib.Omega.{arith}
 use Rattle.memory.proofs.Parts.{part_loaded}

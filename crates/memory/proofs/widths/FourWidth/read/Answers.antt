@@ -1,4 +1,4 @@
--- The four bytes at the front, one by one.
+-- `read` of `memory::widths::Four` meets its contract. The four bytes at the front, one by one.
 use native.Mathlib.Omega.{arith}
 use Rattle.memory.proofs.Parts.{load_inside, number_4}
 use Rattle.memory.proofs.widths.FourWidth.read.Goals as goal

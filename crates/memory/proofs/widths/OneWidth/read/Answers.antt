@@ -1,4 +1,4 @@
--- The byte at the front.
+-- `read` of `memory::widths::One` meets its contract. The byte at the front.
 use mathlib.Core.Path.{sym, ◌∙◌}
 use native.Mathlib.Omega.{arith}
 use Rattle.memory.proofs.Parts.{load_inside, number_1}
