@@ -7,10 +7,12 @@
 ghost use Rattle.std.specs.Prelude.{◌≡◌, [], ◌∷◌};
 ghost use Rattle.opcodes.specs.Table.{make};
 ghost use Rattle.opcodes.specs.View.{view};
-ghost use Rattle.safety.specs.Nature.{put_nature, nature_of, sizes_in};
+ghost use Rattle.safety.specs.Unsafe.{size_of};
+ghost use Rattle.safety.specs.Nature.{put_nature, nature_of};
 
 use instructions::parts_of;
-use opcodes::Instr;
+use opcodes::extent::extent_of;
+use opcodes::{Instr, Object};
 
 // What an instruction is: a store, and of which kind, or something else.
 #[derive(Clone, Copy)]
@@ -27,13 +29,11 @@ pub enum Nature {
     Other,
 }
 
-// A PUT of `bytes` bytes at byte `k` of global `g`: safe where its last byte lies inside the size
-// rounded up to eight.
+// A PUT of `bytes` bytes at byte `k` of global `g`: safe where its last byte lies inside the extent.
 fn put(g: u32, k: u32, bytes: u32, size: u16) -> Nature
     ensures { result ≡ put_nature size g k bytes }
 {
-    let extent = (size as u64 + 7) / 8 * 8;
-    if k as u64 + bytes as u64 <= extent {
+    if k as usize + bytes as usize <= extent_of(size as u32) {
         Nature::Safe
     } else {
         Nature::Own(g as usize)
@@ -56,13 +56,14 @@ pub fn by_opcode(opcode: u32, x: u32, y: u32, z: u32, w: u32, size: u16) -> Natu
     }
 }
 
-// What an instruction is, over the sizes of the objects.
-#[tactic(auto, using(crate::proofs::Natures::nature_whole, crate::proofs::Natures::sizes_inside, crate::proofs::Natures::sizes_past))]
-pub fn nature_of(i: Instr, sizes: &[u16; 400]) -> Nature
-    ensures { result ≡ nature_of (sizes_in sizes.now) (view i) }
+// What an instruction is, over the objects of its file.
+#[tactic(auto, using(crate::proofs::Natures::nature_whole))]
+pub fn nature_of(i: Instr, objects: &[Object]) -> Nature
+    ensures { result ≡ nature_of (size_of objects.now) (view i) }
 {
     let parts = parts_of(i);
-    let g = parts.x as usize;
-    let size = if g < 400 { sizes[g] } else { 0 };
+    let size = objects
+        .get(parts.x as usize)
+        .map_or(0, |object| object.size);
     by_opcode(parts.op, parts.x, parts.y, parts.z, parts.w, size)
 }
