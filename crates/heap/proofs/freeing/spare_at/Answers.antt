@@ -10,5 +10,5 @@ pub returns : goal.returns
 unfolding block_at
 returns c = let s = c.args in
     rw (ne_eqb s.header end_slot c.if-header-eq-END.false, spare_at)
-    (c.spare_of.ensures ∙ ap₂ (λ x y. spare_of (block_of s.header x y)) c.size_at-size.ensures
-    c.mark_at-mark.ensures)
+    (c.spare_of.ensures ∙ ap₂ (λ x y. spare_of (block_of s.header x y)) c.size_at.ensures
+    c.mark_at.ensures)

@@ -4,5 +4,5 @@ use Rattle.heap.proofs.headers.put_header.Goals as goal
 
 pub returns : goal.returns
 returns c = let p = c.requires in
-    put_both _ _ _ _ _ _ p.0 p.1 c.store32.ensures.memory_after
-    c.store32-2.ensures.memory_after
+    put_both _ _ _ _ _ _ p.0 p.1 c.store.ensures.memory_after
+    c.store-2.ensures.memory_after
