@@ -53,6 +53,7 @@ fn find_live(memory: &[u8], address: usize) -> Result<usize, HeapError>
 }
 
 // What the block behind adds; the end slot is none.
+#[tactic(auto, unfolding(crate::specs::Heap::block_at))]
 fn spare_at(memory: &[u8], header: usize) -> usize
     requires { (length memory.now ≡ memory_size) × (header ≤ end_slot) }
     ensures { result ≡ spare_at memory.now header }

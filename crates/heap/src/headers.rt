@@ -25,6 +25,7 @@ pub(crate) fn mark_at(memory: &[u8], header: usize) -> u32
 }
 
 // A header of a body's size and a mark.
+#[tactic(auto, using(crate::proofs::Blocks::put_both))]
 pub(crate) fn put_header(memory: &mut [u8], header: usize, size: u32, mark: u32)
     requires { (length memory.old ≡ memory_size) × (header ≤ end_slot) }
     ensures { memory.new ≡ put_header memory.old header size mark }
@@ -44,6 +45,7 @@ pub(crate) fn is_sound(header: usize, size: usize) -> bool
 }
 
 // Memory at the start: all zero, with one free body from the heap's first header to the end slot.
+#[tactic(auto, unfolding(crate::specs::Lent::started, crate::specs::Heap::empty_heap))]
 pub fn start(memory: &mut [u8])
     ensures { memory.new ≡ started memory.old }
 {

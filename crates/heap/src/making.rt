@@ -44,6 +44,7 @@ fn first_fit(memory: &[u8], want: usize) -> Result<usize, HeapError>
 
 // A header and a body of this size: the body's part of memory is set to zero, and its slots' part of
 // the table takes the color.
+#[tactic(auto, using(memory::proofs::Parts::part_filled))]
 fn hand_out(
     memory: &mut [u8],
     table: &mut [u8],
@@ -69,6 +70,7 @@ fn hand_out(
 }
 
 // A free block that holds the size is taken: cut if at least 16 bytes would remain, else whole.
+#[tactic(auto, using(memory::proofs::Exact::painted_exact), unfolding(crate::specs::Heap::take_block, crate::specs::Heap::block_at))]
 fn take_block(
     memory: &mut [u8],
     table: &mut [u8],
