@@ -2,8 +2,6 @@
 -- Lent says, for any lengths; at the exact lengths that is what Heap says (Exact).
 --     alloc     Walks (the loop over the headers), Fits (what it finds is what the definition takes)
 --     free      Walks, Lives (what the loop finds is what the definition frees)
---     start     Blocks
-pub mod Blocks
 pub mod Exact
 pub mod Walks
 pub mod Fits

@@ -11,7 +11,7 @@ use mathlib.Core.List.{List, []}
 use native.Mathlib.Omega.{arith}
 use lib.Dec.{leb, eqb}
 use borrow.Author.Tests.{eq-eqb, ne_eqb, eqb-true, leb-true}
-use Rattle.std.specs.Prelude.{Result, Ok, Err, Option, Some, None, ⊤}
+use Rattle.std.specs.Prelude.{Result, Ok}
 use Rattle.heap.specs.declared.HeapError.{HeapError}
 use Rattle.memory.specs.Memory.{number_at}
 use Rattle.heap.specs.Heap.{Block, end_slot, heap_start, block_at, sound, Walk, unsound, blocks, with_block, walk_from, walk}

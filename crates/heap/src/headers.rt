@@ -25,7 +25,7 @@ pub(crate) fn mark_at(memory: &[u8], header: usize) -> u32
 }
 
 // A header of a body's size and a mark.
-#[tactic(auto, using(crate::proofs::Blocks::put_both))]
+#[tactic(auto, using(memory::proofs::Exact::stored_inside), unfolding(crate::specs::Heap::put_header))]
 pub(crate) fn put_header(memory: &mut [u8], header: usize, size: u32, mark: u32)
     requires { (length memory.old ≡ memory_size) × (header ≤ end_slot) }
     ensures { memory.new ≡ put_header memory.old header size mark }
