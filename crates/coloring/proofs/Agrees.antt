@@ -4,9 +4,9 @@
 -- are united. Each step is sound for the complete list of the unsafe instructions' sets, and whatever a
 -- step put together stays together. So in the end labels and chains agree (`labels_chains`), and
 -- `Labelled` turns labels into colors.
-use Prim.Native.Nat.{ℕ, ◌+◌, ◌<◌, ◌≤◌}
+use Prim.Native.Nat.{ℕ, ◌+◌, ◌<◌}
 use native.Mathlib.Omega.{arith}
-use mathlib.Core.Path.{◌≡◌, refl, ap}
+use mathlib.Core.Path.{◌≡◌}
 use mathlib.Core.Logic.{⊎_elim}
 use mathlib.Core.List.{List, []}
 use mathlib.Core.Bool.{Bool, true, false}
@@ -17,11 +17,11 @@ use Rattle.safety.specs.declared.Nature.TheVariants.{Listed}
 use Rattle.coloring.specs.Class.{holds, Neighbours, Chain, last, link}
 use Rattle.safety.specs.Unsafe.{unsafe_sets}
 use Rattle.coloring.specs.Colored.{tinted, color_in, class_count}
-use Rattle.coloring.specs.Labels.{Lowest, classes_in, color_by, sets_joined, owns_marked, uses_marked}
+use Rattle.coloring.specs.Labels.{Lowest, classes_in, color_by, sets_joined, owns_marked, uses_marked, labels_of}
 use Rattle.files.proofs.Tests.{no_test}
 use Rattle.coloring.proofs.Members.{holds_here, holds_nil, holds_cases}
 use Rattle.coloring.proofs.Tinted.{tinted_alike}
-use Rattle.coloring.proofs.Joining.{at, Sound, Together, together_trans}
+use Rattle.coloring.proofs.Joining.{Sound, Together, together_trans}
 use Rattle.coloring.proofs.Spans.{AllJoined, sets_joined_lem}
 use Rattle.coloring.proofs.Marking.{Named, sizes, place_in, in_chain, own_in, listed_in, From, own, listed, set_from, OwnsMarked, owns_marked_lem, uses_only, uses_named}
 use Rattle.coloring.proofs.Labelled.{classes_are, colors_are}
@@ -42,11 +42,6 @@ unlabelled sets =
 unused : (s : ℕ) → s < 400 → get_or (replicate 400 false) s false ≡ false
 unused s h = get_or-replicate 400 s false false h
 
--- the labels of a routine
-abbrev pub labels_of : Program → List ℕ
-labels_of p =
-    sets_joined (uses_marked (sizes p) (replicate 400 false) p.code) 0 (owns_marked (sizes p) (replicate 400 400) p.code) p.sets
-
 module _ (p : Program) (good : Good 1 p) where
   abbrev full : List (List ℕ)
   full = unsafe_sets p
@@ -58,7 +53,7 @@ module _ (p : Program) (good : Good 1 p) where
   used = uses_marked (sizes p) (replicate 400 false) p.code
 
   abbrev labels : List ℕ
-  labels = labels_of p
+  labels = sets_joined used 0 marks p.sets
 
   object_most : (x : ℕ) → x < length p.objects → x < 400
   object_most x h = omega (arith, h, good.objects_most)
@@ -113,13 +108,16 @@ module _ (p : Program) (good : Good 1 p) where
 
   -- ---- and so 01's colors
 
-  pub labels_lowest : Lowest labels
-  labels_lowest = sound.lowest
+  pub lowest_labels : Lowest (labels_of p)
+  unfolding labels_of
+  lowest_labels = sound.lowest
 
-  pub counted : classes_in (take (length p.objects) labels) ≡ class_count p
+  pub counted : classes_in (take (length p.objects) (labels_of p)) ≡ class_count p
+  unfolding labels_of
   counted = classes_are full labels sound labels_chains (λ x u. object_most x (unsafe_below p good x u)) (length p.objects) good.objects_most
 
-  pub painted : tinted (color_by labels) 0 p.objects ≡ tinted (color_in p) 0 p.objects
-  painted =
+  pub colors : tinted (color_by (labels_of p)) 0 p.objects ≡ tinted (color_in p) 0 p.objects
+  unfolding labels_of
+  colors =
       tinted_alike (color_by labels) (color_in p) 0 p.objects
       (λ i h. let z : 0 + i ≡ i = omega arith in rw z (colors_are full labels sound labels_chains (λ x u. object_most x (unsafe_below p good x u)) i (object_most i h)))

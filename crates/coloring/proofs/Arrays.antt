@@ -1,11 +1,12 @@
 -- A routine in its arrays: the arrays hold all of it, and the sets among them are in range.
 use Prim.Native.Nat.{ℕ, zero, suc, ◌+◌, ◌-◌, ◌<◌, ◌≤◌}
 use native.Mathlib.Omega.{arith}
+use native.Mathlib.Numerals.{add-one}
 use mathlib.Core.Path.{◌≡◌, refl, sym, ◌∙◌, ap}
 use mathlib.Core.Logic.{⊎_elim}
 use mathlib.Core.List.{List, [], ◌∷◌, ◌++◌, append_assoc}
 use mathlib.Core.Bool.{true}
-use lib.ListN.{length, get_or, take, drop, replicate, length-append, get_or-append}
+use lib.ListN.{length, get_or, replicate, length-append, get_or-append}
 use lib.Seq.{get_or-append-add, take-append_seam, drop-append_seam}
 use Rattle.std.specs.Prelude.{slice_range}
 use Rattle.files.specs.Program.{Program}
@@ -63,7 +64,7 @@ ends_most [] from k = omega arith
 ends_most (t ∷ ss) from zero = omega (arith, length-append t (joined ss))
 ends_most (t ∷ ss) from (suc k) = omega (arith, length-append t (joined ss), ends_most ss (from + length t) k)
 
-ends_rising : (ss : List (List ℕ)) (from k : ℕ) → k + 1 < length ss → get_or (ends_from from ss) k 0 ≤ get_or (ends_from from ss) (k + 1) 0
+ends_rising : (ss : List (List ℕ)) (from k : ℕ) → suc k < length ss → get_or (ends_from from ss) k 0 ≤ get_or (ends_from from ss) (suc k) 0
 unfolding ends_from
 ends_rising [] from k h = absurd (omega arith)
 ends_rising (t ∷ []) from k h = absurd (omega arith)
@@ -88,7 +89,7 @@ pub in_range : (p : Program) → Good 1 p → InRange (sets_held p.sets)
 in_range p good =
     record {
       count = sets_most p good;
-      rising = λ k h. rw (get_d_filled 400 0 (ends_from 0 p.sets) k, get_d_filled 400 0 (ends_from 0 p.sets) (k + 1)) (ends_rising p.sets 0 k h);
+      rising = λ k h. rw (get_d_filled 400 0 (ends_from 0 p.sets) k, get_d_filled 400 0 (ends_from 0 p.sets) (k + 1), add-one) (ends_rising p.sets 0 k (omega (arith, h)));
       ends = λ s. rw (get_d_filled 400 0 (ends_from 0 p.sets) s) (omega (arith, ends_most p.sets 0 s, joined_most p good));
       members =
           λ i.

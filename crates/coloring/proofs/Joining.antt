@@ -5,11 +5,11 @@
 -- and uniting two classes keep both, where the sets chain what is united; so does any sequence of them
 -- (`Step`, which composes). In the end soundness says that labels join no more than chains do, and what
 -- was kept says that they join no less.
-use Prim.Native.Nat.{ℕ, zero, suc, ◌<◌, ◌≤◌}
+use Prim.Native.Nat.{ℕ, ◌<◌, ◌≤◌}
 use native.Mathlib.Omega.{arith}
 use mathlib.Core.Path.{◌≡◌, refl, sym, ◌∙◌, ap}
 use mathlib.Core.Logic.{◌⊎◌, inl, inr, ⊎_elim, ◌≢◌}
-use mathlib.Core.List.{List, [], ◌∷◌, map}
+use mathlib.Core.List.{List, map}
 use mathlib.Core.Bool.{Bool, true, false}
 use lib.ListN.{length, get_or, set, length-set}
 use lib.Seq.{get_or-set_same, get_or-set_other}
@@ -75,7 +75,6 @@ touched_old l x h = rw (lt-ltb (at l x) 400 h, touched)
 
 touched_new : (l : List ℕ) (x : ℕ) → 400 ≤ at l x → touched l x ≡ set l x x
 touched_new l x h = rw (le-ltb (at l x) 400 h, touched)
-
 
 module _ (sets : List (List ℕ)) (l : List ℕ) (s : Sound sets l) (x : ℕ) (h : x < 400) where
   new_same : at (set l x x) x ≡ x

@@ -65,11 +65,10 @@ module _ (sets : List (List ℕ)) (l : List ℕ) (s : Sound sets l) (complete : 
 
   -- each object is its own label where it is the lowest of a class
   own_first : (x : ℕ) → x < 400 → (at l x ≡ x → first sets x ≡ 1) × (at l x ≢ x → first sets x ≡ 0)
-  own_first x h =
-      (
-        λ e. let u : unsafe_object sets x ≡ true = label_unsafe x h (omega (arith, e)) in first_one sets x u (sym (label_lowest x u) ∙ e),
-        λ n. first_zero sets x (λ u e. n (label_lowest x u ∙ e)),
-      )
+  own_first x h = (
+    λ e. let u : unsafe_object sets x ≡ true = label_unsafe x h (omega (arith, e)) in first_one sets x u (sym (label_lowest x u) ∙ e),
+    λ n. first_zero sets x (λ u e. n (label_lowest x u ∙ e)),
+  )
 
   pub classes_are : (n : ℕ) → n ≤ 400 → classes_in (take n l) ≡ classes_below sets n
   unfolding classes_below

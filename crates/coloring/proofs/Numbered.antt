@@ -100,13 +100,16 @@ module _ (labels : List ℕ) (x : ℕ) where
   pub color_none : 400 ≤ get_or labels x 0 → color_by labels x ≡ 0
   color_none h = rw (le-ltb (get_or labels x 0) 400 h, color_by)
 
-module _ (labels : List ℕ) (lowest : Lowest labels) (xs ys : List Object) (x : ℕ) (h : x < length xs) (few : length xs ≤ 400) (done : ys ≡ tinted (color_by labels) 0 (take x xs) ++ drop x xs) where
-  pub own_turn : (next : ℕ) → next ≡ 2 + classes_in (take x labels) → get_or labels x 0 ≡ x
-      → set ys x (painted (get_or ys x blank) next) ≡ tinted (color_by labels) 0 (take (x + 1) xs) ++ drop (x + 1) xs
-  own_turn next n e = painted_next (color_by labels) xs ys x next h done (n ∙ color_own labels x (omega arith) e)
-
+module _ (labels : List ℕ) (lowest : Lowest labels) (xs ys : List Object) (x : ℕ) (h : x < length ys) (few : length ys ≤ 400) (done : ys ≡ tinted (color_by labels) 0 (take x xs) ++ drop x xs) where
   wide : length ys ≡ length xs
   wide = rw done (simp (length-append, tinted_length, length-take, length-drop) (omega arith))
+
+  next : (c : ℕ) → c ≡ color_by labels x → set ys x (painted (get_or ys x blank) c) ≡ tinted (color_by labels) 0 (take (x + 1) xs) ++ drop (x + 1) xs
+  next c e = painted_next (color_by labels) xs ys x c (omega (arith, wide)) done e
+
+  pub own_turn : (c : ℕ) → c ≡ 2 + classes_in (take x labels) → get_or labels x 0 ≡ x
+      → set ys x (painted (get_or ys x blank) c) ≡ tinted (color_by labels) 0 (take (x + 1) xs) ++ drop (x + 1) xs
+  own_turn c n e = next c (n ∙ color_own labels x (omega arith) e)
 
   shared : get_or labels x 0 ≢ x → (get_or ys (get_or labels x 0) blank).color ≡ color_by labels x
   shared n =
@@ -114,13 +117,11 @@ module _ (labels : List ℕ) (lowest : Lowest labels) (xs ys : List Object) (x :
       (λ b.
       let under : get_or labels x 0 < x = omega (arith, lowest.low x (omega arith) b, n) in
       ap (λ (l : List Object). (get_or l (get_or labels x 0) blank).color) done
-      ∙ painted_at (color_by labels) x (get_or labels x 0) xs (omega arith) under
+      ∙ painted_at (color_by labels) x (get_or labels x 0) xs (omega (arith, wide)) under
       ∙ color_shared labels x (lowest.self x (omega arith) b))
-      (λ b.
-      ap (λ (o : Object). o.color) (get_or-eq_default ys blank (omega (arith, wide)))
-      ∙ sym (color_none labels x b))
+      (λ b. ap (λ (o : Object). o.color) (get_or-eq_default ys blank (omega arith)) ∙ sym (color_none labels x b))
       (below_or (get_or labels x 0) 400)
 
   pub other_turn : get_or labels x 0 ≢ x
       → set ys x (painted (get_or ys x blank) (get_or ys (get_or labels x 0) blank).color) ≡ tinted (color_by labels) 0 (take (x + 1) xs) ++ drop (x + 1) xs
-  other_turn n = painted_next (color_by labels) xs ys x (get_or ys (get_or labels x 0) blank).color h done (shared n)
+  other_turn n = next (get_or ys (get_or labels x 0) blank).color (shared n)

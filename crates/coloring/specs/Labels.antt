@@ -1,11 +1,12 @@
 -- The coloring while it is computed. The contracts inside the crate cite this; no promise to another crate does.
 --
 -- An object's label is the lowest object of its class so far, and 400 or more where it has no class.
-use Rattle.std.specs.Prelude.{ℕ, ◌+◌, ◌≤◌, ◌<◌, ◌≡◌, ◌==◌, List, [], ◌∷◌, Bool, true, false, Result, Ok, get_or, set, map, take, replicate, slice_range, min, max, ltb, eqb, count_by}
+use Rattle.std.specs.Prelude.{ℕ, ◌+◌, ◌≤◌, ◌<◌, ◌≡◌, ◌==◌, List, [], ◌∷◌, ◌++◌, Bool, true, false, Result, Ok, get_or, set, map, take, drop, replicate, slice_range, min, max, ltb, eqb, count_by}
 use Rattle.std.specs.List.{fold, enumerate_from}
 use Rattle.numbers.specs.declared.refusal.Refusal.{Refusal}
 use Rattle.opcodes.specs.declared.Instr.{Instr}
 use Rattle.opcodes.specs.View.{view}
+use Rattle.files.specs.declared.arrays.Objects.{Objects}
 use Rattle.files.specs.declared.arrays.Sets.{Sets}
 use Rattle.files.specs.declared.arrays.Loaded.{Loaded}
 use Rattle.files.specs.Program.{Program}
@@ -14,6 +15,7 @@ use Rattle.files.specs.Held.{held}
 use Rattle.safety.specs.declared.Nature.{Nature}
 use Rattle.safety.specs.Unsafe.{size_of}
 use Rattle.safety.specs.Nature.{nature_of}
+use Rattle.coloring.specs.Colored.{tinted}
 
 -- ---- joining classes
 
@@ -70,6 +72,15 @@ owns_marked size labels code = fold (λ l i. own_marked l (nature_of size (view 
 abbrev pub uses_marked : (size : ℕ → ℕ) → List Bool → List Instr → List Bool
 uses_marked size used code = fold (λ u i. use_marked u (nature_of size (view i))) used code
 
+-- the labels of a routine's objects
+unfoldable pub labels_of : Program → List ℕ
+labels_of p =
+    sets_joined
+    (uses_marked (size_of p.objects) (replicate 400 false) p.code)
+    0
+    (owns_marked (size_of p.objects) (replicate 400 400) p.code)
+    p.sets
+
 -- ---- numbering the classes
 
 -- how many objects are their own label, the lowest of their class
@@ -87,6 +98,10 @@ pub record Lowest (labels : List ℕ) : Type 0 where
   pub self : (x : ℕ) → x < 400 → get_or labels x 0 < 400 → get_or labels (get_or labels x 0) 0 ≡ get_or labels x 0
 
 -- ---- the arrays
+
+-- the objects that count, with their colors
+abbrev pub painted : (color : ℕ → ℕ) → Objects → Objects
+painted color o = record { count = o.count; list = tinted color 0 (take o.count o.list) ++ drop o.count o.list }
 
 -- sets that stand among the members one after the other, the first of them from `from` on
 unfoldable pub cut : (from : ℕ) → (ends members : List ℕ) → List (List ℕ)
@@ -112,7 +127,10 @@ program_in l =
       code = take l.code.count l.code.list;
     }
 
--- a routine that was read
+-- a routine that was read, whose arrays are so in range
 pub record IsRead (l : Loaded) : Type 0 where
   pub file : List ℕ
   pub reading : ◌≡◌ {A = Result Loaded Refusal} (Ok l) (held (read_file 1 file))
+  pub objects : l.objects.count ≤ 400
+  pub sets : InRange l.sets
+  pub code : l.code.count ≤ 2000

@@ -8,7 +8,7 @@ ghost use Rattle.std.specs.Prelude.{◌≡◌};
 ghost use Rattle.files.specs.Reading.{Reading, read_file};
 ghost use Rattle.files.specs.Held.{held};
 ghost use Rattle.coloring.specs.Colored.{colored};
-ghost use Rattle.coloring.specs.Labels.{IsRead, program_in};
+ghost use Rattle.coloring.specs.Labels.{IsRead, program_in, labels_of};
 
 use files::{Loaded, read_routine};
 use labels::{NONE, mark_all, unite_sets};
@@ -18,33 +18,41 @@ use painting::{count_classes, give_colors};
 mod labels; // labels.rt: the classes
 mod painting; // painting.rt: their colors
 
+// The labels of a routine's objects.
+#[tactic(auto, unfolding(crate::specs::Labels::labels_of))]
+fn labels_of(routine: &Loaded) -> [u16; 400]
+    requires { IsRead routine.now }
+    ensures { result ≡ labels_of (program_in routine.now) }
+{
+    let code = &routine.code.list[..routine.code.count];
+    let objects = &routine.objects.list[..routine.objects.count];
+    let mut labels = [NONE; 400];
+    let mut used = [false; 400];
+    mark_all(code, objects, &mut labels, &mut used);
+    unite_sets(&mut labels, &used, &routine.sets);
+    labels
+}
+
 // A routine with the colors of its objects. There are colors for 254 classes.
+#[tactic(auto, using(crate::proofs::Answer::labels_lowest, crate::proofs::Answer::many_classes, crate::proofs::Answer::few_classes))]
 fn paint(mut routine: Loaded) -> Result<Loaded, Refusal>
     requires { IsRead routine }
     ensures { result ≡ held (colored (Reading.whole (program_in routine))) }
 {
-    let count = routine.objects.count;
-    let mut labels = [NONE; 400];
-    let mut used = [false; 400];
-    mark_all(
-        &routine.code.list[..routine.code.count],
-        &routine.objects.list[..count],
-        &mut labels,
-        &mut used,
-    );
-    unite_sets(&mut labels, &used, &routine.sets);
-    if 254 < count_classes(&labels[..count]) {
+    let labels = labels_of(&routine);
+    if 254 < count_classes(&labels[..routine.objects.count]) {
         return Err(Refusal {
             cause: Cause::ManyClasses,
             place: 0,
         });
     }
-    give_colors(&mut routine.objects.list[..count], &labels);
+    give_colors(&mut routine.objects, &labels);
     Ok(routine)
 }
 
 // Reads bytes as a routine and gives its objects their colors. The answer has 0 as the color of a safe
 // object, and 2, 3, .. for the classes in the order of their lowest objects.
+#[tactic(auto, using(crate::proofs::Answer::is_read, crate::proofs::Answer::read_colored, crate::proofs::Answer::read_refused))]
 pub fn read_colored(file: &[u8]) -> Result<Loaded, Refusal>
     ensures { result ≡ held (colored (read_file 1 file.now)) }
 {

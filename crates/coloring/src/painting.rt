@@ -1,9 +1,9 @@
 // The colors of a routine's objects, by the labels of their classes.
-ghost use Rattle.std.specs.Prelude.{◌≡◌, ◌≤◌, length, take, get_or};
+ghost use Rattle.std.specs.Prelude.{◌≡◌, ◌≤◌, take, get_or};
 ghost use Rattle.files.specs.Held.{blank};
-ghost use Rattle.coloring.specs.Colored.{tinted};
-ghost use Rattle.coloring.specs.Labels.{classes_in, color_by, Lowest};
+ghost use Rattle.coloring.specs.Labels.{classes_in, color_by, Lowest, painted};
 
+use files::Objects;
 use opcodes::Object;
 
 // How many classes there are: as many as objects that are the lowest of theirs.
@@ -28,20 +28,20 @@ fn color_at(objects: &[Object], x: usize) -> u8
 // Gives the objects their colors, class after class in the order of the lowest objects: the next color to the
 // lowest object of a class, that of the lowest to any other of the class, and 0 to a safe object.
 #[tactic(auto, using(crate::proofs::Numbered::classes_room))]
-pub(super) fn give_colors(objects: &mut [Object], labels: &[u16; 400])
-    requires few { length objects.old ≤ 400 }
-    requires classes { classes_in (take (length objects.old) labels.now) ≤ 254 }
+pub(super) fn give_colors(objects: &mut Objects, labels: &[u16; 400])
+    requires few { objects.old.count ≤ 400 }
+    requires classes { classes_in (take objects.old.count labels.now) ≤ 254 }
     requires lowest { Lowest labels.now }
-    ensures { objects.new ≡ tinted (color_by labels.now) 0 objects.old }
+    ensures { objects.new ≡ painted (color_by labels.now) objects.old }
 {
     let mut next = 2u16;
-    for x in 0..objects.len() {
+    for x in 0..objects.count {
         let lowest = labels[x] as usize;
         if lowest == x {
-            objects[x].color = next as u8;
+            objects.list[x].color = next as u8;
             next += 1;
         } else {
-            objects[x].color = color_at(objects, lowest);
+            objects.list[x].color = color_at(&objects.list, lowest);
         }
     }
 }

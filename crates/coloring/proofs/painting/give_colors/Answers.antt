@@ -8,7 +8,7 @@ use Rattle.coloring.proofs.painting.give_colors.Goals.{then-lowest-x, else-lowes
 
 pub loop-x-init : goal.loop-x-init
 unfolding classes_in tinted
-loop-x-init c = record { next = refl; done = refl }
+loop-x-init c = record { next = refl; count = refl; done = refl }
 
 pub loop-x-preserved : goal.loop-x-preserved
 loop-x-preserved c =
