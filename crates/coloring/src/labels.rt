@@ -28,18 +28,14 @@ fn touch(labels: &mut [u16; 400], x: u16)
     }
 }
 
-fn rename(label: u16, from: u16, to: u16) -> u16
-    ensures { result ≡ renamed from to label }
-{
-    if label == from { to } else { label }
-}
-
 #[tactic(auto, using(crate::proofs::Turns::relabel_turn))]
 fn relabel(labels: &mut [u16; 400], from: u16, to: u16)
     ensures { labels.new ≡ map (renamed from to) labels.old }
 {
     for label in labels.iter_mut() {
-        *label = rename(*label, from, to);
+        if *label == from {
+            *label = to;
+        }
     }
 }
 
