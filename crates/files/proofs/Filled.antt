@@ -6,9 +6,7 @@ use native.Mathlib.Nat.{sub-zero, add-zero}
 use native.Mathlib.Omega.{arith}
 use lib.ListN.{length, take, set, replicate, get_or, length-append, length-replicate, length-map, get_or-map}
 use lib.Seq.{sets, set-append_seam, take-append_seam}
-use Rattle.opcodes.specs.declared.Instr.{Instr}
-use Rattle.files.specs.declared.Line.{Line}
-use Rattle.files.specs.Held.{filled, line}
+use Rattle.files.specs.Held.{filled}
 
 module _ {A : Type 0} (n : ℕ) (blank : A) where
   -- nothing is filled in yet
@@ -62,16 +60,6 @@ pub map_more : {A B : Type 0} (n : ℕ) (blank : B) (f : A → B) (done : List A
 map_more n blank f done x {array} {i} held counted h =
     ap (λ (l : List _). set l i (f x)) held ∙ filled_more n blank (map f done) (f x) i (rw length-map counted) h
     ∙ ap (filled n blank) (sym (map-append f done (x ∷ [])))
-
--- the instructions of lines that hold them
-pub instrs_lines : (code : List Instr) → map (λ x. x.instr) (map line code) ≡ code
-instrs_lines [] = refl
-instrs_lines (i ∷ code) = ap (λ (l : List Instr). i ∷ l) (instrs_lines code)
-
--- the lines that count are the code
-pub lines_filled : (n : ℕ) (blank : Line) (code : List Instr) → map (λ x. x.instr) (take (length code) (filled n blank (map line code))) ≡ code
-lines_filled n blank code =
-    ap (map (λ x. x.instr)) (take-filled n blank (map line code) (length code) (sym (length-map code line))) ∙ instrs_lines code
 
 -- a run of stores after another
 pub sets_append : {A : Type 0} (l : List A) (i : ℕ) (xs ys : List A) → sets l i (xs ++ ys) ≡ sets (sets l i xs) (i + length xs) ys

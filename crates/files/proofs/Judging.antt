@@ -8,6 +8,7 @@ use lib.ListN.{length, drop}
 use borrow.Author.Tests.{eqb-true}
 use Rattle.std.specs.Prelude.{Ok, Err}
 use Rattle.numbers.specs.Refusals.{refusal}
+use Rattle.numbers.specs.declared.refusal.Cause.{Cause}
 use Rattle.numbers.specs.declared.Cursor.{Cursor}
 use Rattle.numbers.specs.declared.refusal.Refusal.{Refusal}
 use Rattle.numbers.specs.Number.{Read}
@@ -17,8 +18,9 @@ use Rattle.files.specs.Program.{most_code}
 use Rattle.files.specs.Reading.{judge, judged}
 use Rattle.files.specs.Writing.{spell_if}
 use Rattle.files.specs.Parsing.{cursor}
+use Rattle.files.proofs.Answered.{same_thing, same_cursor}
 
-module _ (why : ℕ) (test : ℕ → Bool) (file : List ℕ) (at : ℕ) where
+module _ (why : Cause) (test : ℕ → Bool) (file : List ℕ) (at : ℕ) where
   pub not_read : {q : Refusal} → read_number file at ≡ Err q → judged why test file at ≡ Err q
   not_read e = ap (judge why at test) e
 
@@ -40,25 +42,25 @@ module _ (why : ℕ) (test : ℕ → Bool) (file : List ℕ) (at : ℕ) where
     where
       kept : (m : ℕ) (c : Cursor) (b : Bool) → test m ≡ b → read_number file at ≡ Ok (m, c) → Good n next
       kept m c true t r =
-          let same : Ok (m, c) ≡ Ok (n, next) = sym (passed r t) ∙ e in
-          let left : m ≡ n = cc in
-          let right : c ≡ next = cc in
+          let same : ◌≡◌ {A = Read} (Ok (m, c)) (Ok (n, next)) = sym (passed r t) ∙ e in
+          let left : m ≡ n = same_thing same in
+          let right : c ≡ next = same_cursor same in
           record { read = rw (left, right) at r; right = rw left at t }
       kept m c false t r =
-          let clash : Err (refusal why at) ≡ Ok (n, next) = sym (failed r t) ∙ e in
+          let clash : ◌≡◌ {A = Read} (Err (refusal why at)) (Ok (n, next)) = sym (failed r t) ∙ e in
           let z : ◌≡◌ {A = ℕ} 0 1 = cc in
           absurd (omega arith)
 
       go : (r : Read) → read_number file at ≡ r → Good n next
       go (Ok (m, c)) r = kept m c (test m) refl r
       go (Err q) r =
-          let clash : Err q ≡ Ok (n, next) = sym (not_read r) ∙ e in
+          let clash : ◌≡◌ {A = Read} (Err q) (Ok (n, next)) = sym (not_read r) ∙ e in
           let z : ◌≡◌ {A = ℕ} 0 1 = cc in
           absurd (omega arith)
 
 -- ---- a field: a number that is judged where it stands in the file, and 0 where it does not
 
-abbrev pub field : Bool → (why : ℕ) → (ℕ → Bool) → List ℕ → (at : ℕ) → Read
+abbrev pub field : Bool → Cause → (ℕ → Bool) → List ℕ → (at : ℕ) → Read
 field stands why test file at = elim stands [ true ↦ judged why test file at | false ↦ Ok (0, cursor at) ]
 
 abbrev pub right : Bool → (ℕ → Bool) → ℕ → Bool
@@ -71,15 +73,15 @@ pub record Field (b : Bool) (test : ℕ → Bool) (file : List ℕ) (at n : ℕ)
   pub ends : next.at ≡ at + length (spell_if b n)
   pub small : n < 2 ^ 32
 
-module _ (why : ℕ) (test : ℕ → Bool) (file : List ℕ) (at : ℕ) {n : ℕ} {next : Cursor} where
+module _ (why : Cause) (test : ℕ → Bool) (file : List ℕ) (at : ℕ) {n : ℕ} {next : Cursor} where
   pub field_of_read : (b : Bool) → field b why test file at ≡ Ok (n, next) → Field b test file at n next
   field_of_read true e =
       let g = good why test file at e in
       let s = spelled_of_read file at g.read in
       record { good = g.right; stands = s.stands; ends = s.ends; small = s.small }
   field_of_read false e =
-      let value : n ≡ 0 = cc in
-      let behind : next ≡ cursor at = cc in
+      let value : n ≡ 0 = sym (same_thing e) in
+      let behind : next ≡ cursor at = sym (same_cursor e) in
       rw (value, behind) (record { good = refl; stands = refl; ends = omega arith; small = omega arith })
 
   pub read_of_field : (b : Bool) → Field b test file at n next → field b why test file at ≡ Ok (n, next)
@@ -93,7 +95,7 @@ module _ (why : ℕ) (test : ℕ → Bool) (file : List ℕ) (at : ℕ) {n : ℕ
   -- where the test keeps a number small, the field is small
   pub field_small : (b : Bool) (k : ℕ) → ((m : ℕ) → test m ≡ true → m ≤ k) → field b why test file at ≡ Ok (n, next) → n ≤ k
   field_small true k h e = h n (good why test file at e).right
-  field_small false k h e = let value : n ≡ 0 = cc in omega arith
+  field_small false k h e = let value : 0 ≡ n = same_thing e in omega arith
 
 pub most_small : (version : ℕ) → most_code version ≤ 2000
 most_small version = go (lib.Dec.eqb version 1) refl

@@ -10,22 +10,18 @@
 -- `SpelledInstructions`, `SpelledLists`). What an instruction of a good routine names is there
 -- (`GoodInstructions.names`).
 --
--- How the code comes to it: what judging a number answers (`Judging`); one object and one instruction
--- (`OneObject`, `OneInstr`); the loops over them (`ObjectLoop`, `MemberLoop`, `SetLoop`, `CodeLoop`); arrays
--- of which the first elements count (`Filled`, `Parts`), and lists of what they hold (`Tabulated`); two tests
--- at once, and a test of every element (`Tests`); reading part after part is reading by the plan (`Following`), and
--- so for the stages of a file (`Stages`).
+-- How the code comes to it: what judging a number answers (`Judging`), and what a part's answer says (`Answered`);
+-- one instruction (`OneInstr`); the loop over things (`Loop`), and those over members and sets (`MemberLoop`,
+-- `SetLoop`); arrays of which the first elements count (`Filled`); two tests at once, and a test of every element
+-- (`Tests`); reading part after part is reading by the plan (`Following`), and so for the stages of a file (`Stages`).
 pub mod Tests
 pub mod Filled
-pub mod Tabulated
+mod Answered
 mod Judging
-mod OneObject
-mod ObjectLoop
+mod Loop
 mod OneInstr
-mod CodeLoop
 mod MemberLoop
 mod SetLoop
-mod Parts
 pub mod Following
 mod Stages
 pub mod SpelledNumbers

@@ -4,7 +4,6 @@ use mathlib.Core.Path.{◌≡◌, refl, sym, ap, ◌∙◌}
 use mathlib.Core.List.{List, [], ◌∷◌, ◌++◌}
 use mathlib.Core.Bool.{Bool, true, false}
 use Prim.Native.Nat.{ℕ, zero, suc, ◌+◌, ◌-◌, ◌<◌, ◌≤◌}
-use native.Mathlib.Nat.{sub-zero}
 use native.Mathlib.Omega.{arith}
 use lib.ListN.{length, set, length-append}
 use lib.Seq.{sets, length-sets}
@@ -18,23 +17,22 @@ use Rattle.numbers.specs.Number.{Read}
 use Rattle.numbers.proofs.Laws.{read_bounds}
 use Rattle.opcodes.specs.Ranges.{within}
 use Rattle.files.specs.Reading.{judged, is_member}
-use Rattle.files.specs.Inside.{member_at}
 use Rattle.files.proofs.Filled.{sets_append}
 use Rattle.files.proofs.Judging.{good}
-use Rattle.files.specs.Parsing.{Parsed, got, refused, members_from, after_member_count, read_set}
+use Rattle.files.proofs.Answered.{same_thing, same_cursor}
+use Rattle.files.specs.Parsing.{Answer, then, cursor, member_at, members_from, read_set}
 
 -- one turn
 module _ (left objects : ℕ) (file : List ℕ) (at low : ℕ) (done : List ℕ) where
-  abbrev turn : Read → Parsed (List ℕ)
-  turn (Ok (n, next)) = members_from left objects file next.at (n + 1) (done ++ n ∷ [])
-  turn (Err q) = refused q
+  abbrev turn : Read → Answer (List ℕ)
+  turn r = then r λ n next. members_from left objects file next.at (n + 1) (done ++ n ∷ [])
 
   pub member_more : {n : ℕ} {next : Cursor} → member_at objects low file at ≡ Ok (n, next)
       → members_from (suc left) objects file at low done ≡ members_from left objects file next.at (n + 1) (done ++ n ∷ [])
   unfolding members_from
   member_more e = ap turn e
 
-  pub member_stops : {q : Refusal} → member_at objects low file at ≡ Err q → members_from (suc left) objects file at low done ≡ refused q
+  pub member_stops : {q : Refusal} → member_at objects low file at ≡ Err q → members_from (suc left) objects file at low done ≡ Err q
   unfolding members_from
   member_stops e = ap turn e
 
@@ -63,88 +61,99 @@ member objects file at low {n} e =
     record { rises = r.0; known = r.1; behind = b.0; inside = b.1 }
 
 -- so many members take as many bytes at least
-pub members_bounds : (left objects : ℕ) (file : List ℕ) (at low : ℕ) (done : List ℕ) {all : List ℕ} {next : ℕ} → at ≤ length file
-    → members_from left objects file at low done ≡ got all next → (at + length all ≤ next + length done) × (next ≤ length file)
+pub members_bounds : (left objects : ℕ) (file : List ℕ) (at low : ℕ) (done : List ℕ) {all : List ℕ} {next : Cursor} → at ≤ length file
+    → members_from left objects file at low done ≡ Ok (all, next) → (at + length all ≤ next.at + length done) × (next.at ≤ length file)
 unfolding members_from
 members_bounds zero objects file at low done {all} {next} h e =
-    let same : done ≡ all = cc in
-    let there : at ≡ next = cc in
+    let same : done ≡ all = same_thing e in
+    let there : at ≡ next.at = ap (λ (c : Cursor). c.at) (same_cursor e) in
     let l : length done ≡ length all = ap length same in
     (omega arith, omega arith)
 members_bounds (suc left) objects file at low done {all} {next} h e =
     go (member_at objects low file at) refl (λ c n h e. members_bounds left objects file c (n + 1) (done ++ n ∷ []) h e)
   where
     go : (r : Read) → member_at objects low file at ≡ r
-        → ((c n : ℕ) → c ≤ length file → members_from left objects file c (n + 1) (done ++ n ∷ []) ≡ got all next
-        → (c + length all ≤ next + length (done ++ n ∷ [])) × (next ≤ length file))
-        → (at + length all ≤ next + length done) × (next ≤ length file)
+        → ((c n : ℕ) → c ≤ length file → members_from left objects file c (n + 1) (done ++ n ∷ []) ≡ Ok (all, next)
+        → (c + length all ≤ next.at + length (done ++ n ∷ [])) × (next.at ≤ length file))
+        → (at + length all ≤ next.at + length done) × (next.at ≤ length file)
     go (Ok (n, c)) r ih =
         let m = member objects file at low r in
         let i = ih c.at n m.inside (sym (member_more left objects file at low done r) ∙ e) in
         let l : length (done ++ n ∷ []) ≡ length done + 1 = length-append done (n ∷ []) in
         (omega (arith, i.0, m.behind), i.1)
     go (Err q) r ih =
-        let clash : refused q ≡ got all next = sym (member_stops left objects file at low done r) ∙ e in
+        let clash : ◌≡◌ {A = Answer (List ℕ)} (Err q) (Ok (all, next)) = sym (member_stops left objects file at low done r) ∙ e in
         let w : ◌≡◌ {A = ℕ} 0 1 = cc in
         absurd (omega arith)
 
-pub set_bounds : (objects : ℕ) (file : List ℕ) (at : ℕ) {set : List ℕ} {next : ℕ} → read_set objects file at ≡ got set next
-    → (at + length set ≤ next) × (next ≤ length file)
+pub set_bounds : (objects : ℕ) (file : List ℕ) (at : ℕ) {set : List ℕ} {next : Cursor} → read_set objects file at ≡ Ok (set, next)
+    → (at + length set ≤ next.at) × (next.at ≤ length file)
 set_bounds objects file at {set} {next} e = go (judged Cause.Count (within 1 objects) file at) refl
   where
-    go : (r : Read) → judged Cause.Count (within 1 objects) file at ≡ r → (at + length set ≤ next) × (next ≤ length file)
+    members : Read → Answer (List ℕ)
+    members r = then r λ n past. members_from n objects file past.at 0 []
+
+    go : (r : Read) → judged Cause.Count (within 1 objects) file at ≡ r → (at + length set ≤ next.at) × (next.at ≤ length file)
     go (Ok (n, c)) r =
         let b = read_bounds file at (good Cause.Count (within 1 objects) file at r).read in
-        let m = members_bounds n objects file c.at 0 [] b.1 (sym (ap (after_member_count objects file) r) ∙ e) in
+        let m = members_bounds n objects file c.at 0 [] b.1 (sym (ap members r) ∙ e) in
         (omega (arith, m.0, b.0), m.1)
     go (Err q) r =
-        let clash : refused q ≡ got set next = sym (ap (after_member_count objects file) r) ∙ e in
+        let clash : ◌≡◌ {A = Answer (List ℕ)} (Err q) (Ok (set, next)) = sym (ap members r) ∙ e in
         let w : ◌≡◌ {A = ℕ} 0 1 = cc in
         absurd (omega arith)
 
 -- ---- the loop
 
-pub record Taking (objects count : ℕ) (file : List ℕ) (from : ℕ) (before : List ℕ) (start : ℕ) (members : List ℕ) (next low place i : ℕ) : Type 0 where
+pub record Taking (objects count : ℕ) (file : List ℕ) (from : ℕ) (before : List ℕ) (start : ℕ) (members : List ℕ) (next low place : ℕ) : Type 0 where
   pub done : List ℕ
-  pub at_most : i ≤ count
-  pub placed : place ≡ start + length done
-  pub rest : members_from (count - i) objects file next low done ≡ members_from count objects file from 0 []
+  pub at_most : place ≤ start + count
+  pub counted : place ≡ start + length done
+  pub rest : members_from (start + count - place) objects file next low done ≡ members_from count objects file from 0 []
   pub room : members ≡ sets before start done
   pub behind : place ≤ next
 
 pub begin : (objects count : ℕ) (file : List ℕ) (from : ℕ) (before : List ℕ) (start : ℕ) → start ≤ from
-    → Taking objects count file from before start before from 0 start 0
+    → Taking objects count file from before start before from 0 start
 begin objects count file from before start h =
-    record { done = []; at_most = omega arith; placed = omega arith; rest = rw sub-zero; room = refl; behind = h }
+    let all : count ≡ start + count - start = omega arith in
+    record {
+      done = [];
+      at_most = omega arith;
+      counted = omega arith;
+      rest = ap (λ (n : ℕ). members_from n objects file from 0 []) (sym all);
+      room = refl;
+      behind = h;
+    }
 
-module _ {objects count : ℕ} {file : List ℕ} {from : ℕ} {before : List ℕ} {start : ℕ} {members : List ℕ} {next low place i : ℕ}
-    (t : Taking objects count file from before start members next low place i) where
-  here : i < count → members_from (suc (count - (i + 1))) objects file next low t.done ≡ members_from count objects file from 0 []
+module _ {objects count : ℕ} {file : List ℕ} {from : ℕ} {before : List ℕ} {start : ℕ} {members : List ℕ} {next low place : ℕ}
+    (t : Taking objects count file from before start members next low place) where
+  here : place < start + count → members_from (suc (start + count - (place + 1))) objects file next low t.done ≡ members_from count objects file from 0 []
   here h =
-      let one : suc (count - (i + 1)) ≡ count - i = omega arith in
+      let one : suc (start + count - (place + 1)) ≡ start + count - place = omega arith in
       ap (λ (n : ℕ). members_from n objects file next low t.done) one ∙ t.rest
 
   pub as_long : length members ≡ length before
   as_long = ap length t.room ∙ length-sets before start t.done
 
-  pub more : i < count → {n : ℕ} {c : Cursor} → member_at objects low file next ≡ Ok (n, c)
-      → Taking objects count file from before start (set members place n) c.at (n + 1) (place + 1) (i + 1)
+  pub more : place < start + count → {n : ℕ} {c : Cursor} → member_at objects low file next ≡ Ok (n, c)
+      → Taking objects count file from before start (set members place n) c.at (n + 1) (place + 1)
   more h {n} {c} e =
       record {
         done = t.done ++ n ∷ [];
         at_most = omega arith;
-        placed = rw length-append (omega (arith, t.placed));
-        rest = sym (member_more (count - (i + 1)) objects file next low t.done e) ∙ here h;
-        room = ap (λ (l : List ℕ). set l place n) t.room ∙ ap (λ (p : ℕ). set (sets before start t.done) p n) t.placed
+        counted = rw length-append (omega (arith, t.counted));
+        rest = sym (member_more (start + count - (place + 1)) objects file next low t.done e) ∙ here h;
+        room = ap (λ (l : List ℕ). set l place n) t.room ∙ ap (λ (p : ℕ). set (sets before start t.done) p n) t.counted
             ∙ sym (sets_append before start t.done (n ∷ []));
         behind = omega (arith, t.behind, (member objects file next low e).behind);
       }
 
-  pub stops : i < count → {q : Refusal} → member_at objects low file next ≡ Err q → members_from count objects file from 0 [] ≡ refused q
-  stops h e = sym (here h) ∙ member_stops (count - (i + 1)) objects file next low t.done e
+  pub stops : place < start + count → {q : Refusal} → member_at objects low file next ≡ Err q → members_from count objects file from 0 [] ≡ Err q
+  stops h e = sym (here h) ∙ member_stops (start + count - (place + 1)) objects file next low t.done e
 
-  pub ends : count ≤ i → members_from count objects file from 0 [] ≡ got t.done next
+  pub ends : start + count ≤ place → members_from count objects file from 0 [] ≡ Ok (t.done, cursor next)
   unfolding members_from
   ends h =
-      let none : 0 ≡ count - i = omega (arith, t.at_most) in
+      let none : 0 ≡ start + count - place = omega arith in
       sym t.rest ∙ ap (λ (n : ℕ). members_from n objects file next low t.done) (sym none)

@@ -1,9 +1,10 @@
 -- Reading one instruction, step by step, and what is known of its operands.
-use mathlib.Core.Path.{◌≡◌, sym, ap, ◌∙◌}
+use mathlib.Core.Path.{◌≡◌, sym, ap, ap₂, ◌∙◌}
 use mathlib.Core.List.{List, ◌∷◌}
 use mathlib.Core.Bool.{Bool, true, false}
 use Prim.Native.Nat.{ℕ, ◌<◌, ◌≤◌}
 use native.Mathlib.Omega.{arith}
+use denote.Ref.{Bor}
 use lib.Dec.{ltb}
 use borrow.Author.Tests.{ltb-true, leb-true, eqb-true}
 use Rattle.std.specs.Prelude.{Ok, Err}
@@ -22,18 +23,18 @@ use Rattle.opcodes.specs.Ranges.{Scope, has_sets, present, allowed, has_opcode, 
 use Rattle.files.specs.Reading.{judged}
 use Rattle.files.specs.Inside.{Small}
 use Rattle.files.proofs.Judging.{Field, right, field_of_read}
-use Rattle.files.specs.Parsing.{on_number, operand_at, operands_at, read_instr}
+use Rattle.files.specs.Parsing.{Answer, then, operand_at, operands_at, read_instr}
 
 module _ (scope : Scope) (file : List ℕ) where
   abbrev behind : (op : ℕ) → Cursor → Answer Instr
   behind op next = operands_at scope (operands_of (row_of op)) file next (make op)
 
   pub no_opcode : (at : ℕ) {q : Refusal} → judged Cause.Field (has_opcode scope.version) file at ≡ Err q → read_instr scope file at ≡ Err q
-  no_opcode at e = ap (λ (r : Read). on_number r behind) e
+  no_opcode at e = ap (λ (r : Read). then r behind) e
 
   pub an_opcode : (at : ℕ) {op : ℕ} {past : Cursor} → judged Cause.Field (has_opcode scope.version) file at ≡ Ok (op, past)
       → read_instr scope file at ≡ operands_at scope (operands_of (row_of op)) file past (make op)
-  an_opcode at e = ap (λ (r : Read). on_number r behind) e
+  an_opcode at e = ap (λ (r : Read). then r behind) e
 
   -- the first of the operands that are left, and those behind it
   module _ (kind : Operand) (kinds : List Operand) (from : Cursor) (k : List ℕ → Instr) where
@@ -41,11 +42,16 @@ module _ (scope : Scope) (file : List ℕ) where
     left n next = operands_at scope kinds file next (λ ns. k (n ∷ ns))
 
     pub no_operand : {q : Refusal} → operand_at scope kind file from.at ≡ Err q → operands_at scope (kind ∷ kinds) file from k ≡ Err q
-    no_operand e = ap (λ (r : Read). on_number r left) e
+    no_operand e = ap (λ (r : Read). then r left) e
 
     pub an_operand : {n : ℕ} {next : Cursor} → operand_at scope kind file from.at ≡ Ok (n, next)
         → operands_at scope (kind ∷ kinds) file from k ≡ operands_at scope kinds file next (λ ns. k (n ∷ ns))
-    an_operand e = ap (λ (r : Read). on_number r left) e
+    an_operand e = ap (λ (r : Read). then r left) e
+
+-- what is read through a reader is what stands at its place
+pub through_reader : (scope : Scope) {r : Answer Instr} {file held : Bor (List ℕ)} {at place : ℕ} → r ≡ read_instr scope held.now place
+    → held ≡ file → place ≡ at → r ≡ read_instr scope file.now at
+through_reader scope e f g = e ∙ ap₂ (λ (b : Bor (List ℕ)) (n : ℕ). read_instr scope b.now n) f g
 
 -- an operand that was read by a row that is known
 pub by_row : {row known : Row} → row ≡ known → (kind : Row → Operand) (scope : Scope) (file : List ℕ) (at : ℕ) {r is : Read}
@@ -61,7 +67,7 @@ right_small false test k n h e = omega (arith, eqb-true n 0 e)
 pub operand_fits : (scope : declared.Scope) (kinds : List ℕ) → Small scope kinds → (kind : Operand) (file : List ℕ) (at : ℕ)
     {n : ℕ} {next : Cursor} → operand_at (scope_over scope kinds) kind file at ≡ Ok (n, next) → n < roof kind
 operand_fits scope kinds small kind file at {n} {next} e =
-    go kind (field_of_read 6 (allowed (scope_over scope kinds) kind) file at (present scope.version kind) e)
+    go kind (field_of_read Cause.Field (allowed (scope_over scope kinds) kind) file at (present scope.version kind) e)
   where
     go : (k : Operand) → Field (present scope.version k) (allowed (scope_over scope kinds) k) file at n next → n < roof k
     go Operand.None f = omega (arith, eqb-true n 0 f.good)

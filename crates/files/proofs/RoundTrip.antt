@@ -14,12 +14,11 @@ use lib.Seq.{drop-length}
 use lib.Dec.{eqb, leb}
 use borrow.Author.Tests.{eqb-true, leb-true, le-leb, eq-eqb}
 use Rattle.std.specs.Prelude.{Ok, Err}
+use Rattle.numbers.specs.Refusals.{refusal}
 use Rattle.numbers.specs.declared.refusal.Cause.{Cause}
 use Rattle.numbers.specs.Number.{Read}
-use Rattle.numbers.specs.declared.refusal.Refusal.{Refusal}
 use Rattle.numbers.specs.Number.{spell}
 use Rattle.opcodes.specs.declared.Object.{Object}
-use Rattle.files.specs.declared.Outcome.{Outcome}
 use Rattle.opcodes.specs.declared.Instr.{Instr}
 use Rattle.opcodes.specs.Ranges.{Scope, has_sets, within}
 use Rattle.files.specs.Program.{Program, most_code, longest}
@@ -32,7 +31,41 @@ use Rattle.opcodes.proofs.Bounds.{within_bounds, within_true}
 use Rattle.files.proofs.Tests.{both_true, both_left, both_right, every_at}
 use Rattle.files.proofs.SpelledInstructions.{Bounded}
 use Rattle.files.proofs.SpelledLists.{objects_of_read, read_of_objects, sets_of_read, read_of_sets, code_of_read, read_of_code}
-use Rattle.files.specs.Parsing.{Parsed, got, after_version, after_object_count, after_objects, after_set_count, after_sets, after_code_count, after_code, objects_from, sets_from, code_from}
+use Rattle.files.specs.Parsing.{Answer, then, several, cursor, read_object, read_set, read_instr, ends_there, behind}
+
+-- ---- what is left to read, stage by stage
+
+module _ (version : ℕ) (file : List ℕ) where
+  abbrev after_code : List Object → List (List ℕ) → Answer (List Instr) → Reading
+  after_code os ss r = behind r λ code next. ends_there file (record { objects = os; sets = ss; code = code }) next
+
+  abbrev after_code_count : List Object → List (List ℕ) → Read → Reading
+  after_code_count os ss r =
+      after_code os ss
+      (then r λ n next. several n (read_instr (record { version = version; kinds = kinds_of os; sets = length ss; code = n }) file) next.at [])
+
+  abbrev after_sets : List Object → Answer (List (List ℕ)) → Reading
+  after_sets os r = behind r λ ss past. after_code_count os ss (judged Cause.Count (within 1 (most_code version)) file past.at)
+
+  abbrev after_set_count : List Object → Read → Reading
+  after_set_count os r = after_sets os (then r λ n next. several n (read_set (length os) file) next.at [])
+
+  abbrev listing_of : Bool → List Object → (at : ℕ) → Answer (List (List ℕ))
+  listing_of listed os at =
+      elim listed [
+        | true ↦ then (judged Cause.Count (within 0 400) file at) λ n next. several n (read_set (length os) file) next.at []
+        | false ↦ Ok ([], cursor at)
+      ]
+
+  abbrev after_objects : Answer (List Object) → Reading
+  after_objects r = behind r λ os past. after_sets os (listing_of (has_sets version) os past.at)
+
+  abbrev after_object_count : Read → Reading
+  after_object_count r = after_objects (then r λ n next. several n (read_object version file) next.at [])
+
+  abbrev after_version : Read → Reading
+  after_version r =
+      after_objects (then r λ this past. then (judged Cause.Count (within 0 400) file past.at) λ n next. several n (read_object version file) next.at [])
 
 -- ---- what a good program says, piece by piece
 
@@ -148,18 +181,18 @@ module _ (version : ℕ) (file : List ℕ) (p : Program) (fits : length file ≤
 
   ended : (objects : List Object) (sets : List (List ℕ)) (d e n : ℕ) → Before objects sets d
       → Judged file d (within 1 (most_code version)) n e
-      → (r : Parsed (List Instr)) → code_from n (scope_for objects sets n) file e [] ≡ r
-      → after_code file objects sets r ≡ whole p → Right
+      → (r : Answer (List Instr)) → several n (read_instr (scope_for objects sets n) file) e [] ≡ r
+      → after_code version file objects sets r ≡ whole p → Right
   unfolding Right
-  ended objects sets d e n before j (got code next) r w = go (eqb next (length file)) refl w
+  ended objects sets d e n before j (Ok (code, next)) r w = go (eqb next.at (length file)) refl w
     where
-      go : (t : Bool) → eqb next (length file) ≡ t
-          → elim t as (λ _. Reading) [ true ↦ whole (record { objects = objects; sets = sets; code = code }) | false ↦ Reading.refused (record { number = 7; place = next }) ] ≡ whole p
+      go : (t : Bool) → eqb next.at (length file) ≡ t
+          → elim t as (λ _. Reading) [ true ↦ whole (record { objects = objects; sets = sets; code = code }) | false ↦ Reading.refused (refusal Cause.Surplus next.at) ] ≡ whole p
           → Says version file p
       go true q w =
           let made : record { objects = objects; sets = sets; code = code } ≡ p = cc in
-          let last : next ≡ length file = eqb-true next (length file) q in
-          let s = code_of_read n (scope_for objects sets n) file e next code r in
+          let last : next.at ≡ length file = eqb-true next.at (length file) q in
+          let s = code_of_read n (scope_for objects sets n) file e code next r in
           let long : length code ≡ n = ap length s.whole ∙ s.number in
           let pieces : Pieces version file (record { objects = objects; sets = sets; code = code }) =
           record {
@@ -191,12 +224,12 @@ module _ (version : ℕ) (file : List ℕ) (p : Program) (fits : length file ≤
             bytes = bytes;
           })
       go false q w = let z : ◌≡◌ {A = ℕ} 0 1 = cc in absurd (omega arith)
-  ended objects sets d e n before j (Parsed.refused q) r w = let z : ◌≡◌ {A = ℕ} 0 1 = cc in absurd (omega arith)
+  ended objects sets d e n before j (Err q) r w = let z : ◌≡◌ {A = ℕ} 0 1 = cc in absurd (omega arith)
 
   coded : (objects : List Object) (sets : List (List ℕ)) (d : ℕ) → Before objects sets d
       → (r : Read) → judged Cause.Count (within 1 (most_code version)) file d ≡ r → after_code_count version file objects sets r ≡ whole p → Right
   coded objects sets d before (Ok (n, c)) r w =
-      ended objects sets d c.at n before (judged_of_read 5 _ file d r) (code_from n (scope_for objects sets n) file c.at []) refl w
+      ended objects sets d c.at n before (judged_of_read Cause.Count _ file d r) (several n (read_instr (scope_for objects sets n) file) c.at []) refl w
   coded objects sets d before (Err q) r w = let z : ◌≡◌ {A = ℕ} 0 1 = cc in absurd (omega arith)
 
   record Early (objects : List Object) (c : ℕ) : Type 0 where
@@ -210,19 +243,19 @@ module _ (version : ℕ) (file : List ℕ) (p : Program) (fits : length file ≤
 
   with_sets : (objects : List Object) (c : ℕ) → has_sets version ≡ true → Early objects c
       → (r : Read) → judged Cause.Count (within 0 400) file c ≡ r → after_set_count version file objects r ≡ whole p → Right
-  with_sets objects c has early (Ok (n, k)) r w = go (sets_from n (length objects) file k.at []) refl w
+  with_sets objects c has early (Ok (n, k)) r w = go (several n (read_set (length objects) file) k.at []) refl w
     where
-      go : (s : Parsed (List (List ℕ))) → sets_from n (length objects) file k.at [] ≡ s → after_sets version file objects s ≡ whole p → Right
-      go (got sets next) s w =
-          let j = judged_of_read 5 (within 0 400) file c r in
-          let m = sets_of_read n (length objects) file k.at next sets s in
+      go : (s : Answer (List (List ℕ))) → several n (read_set (length objects) file) k.at [] ≡ s → after_sets version file objects s ≡ whole p → Right
+      go (Ok (sets, next)) s w =
+          let j = judged_of_read Cause.Count (within 0 400) file c r in
+          let m = sets_of_read n (length objects) file k.at sets next s in
           let long : length sets ≡ n = ap length m.whole ∙ m.number in
-          let listed : Stands file c (spell (length sets) ++ spell_all spell_set sets) next =
-          stands_append {mid = k.at} (spell (length sets)) (spell_all spell_set sets) (rw long j.stood) (subst (λ (l : List (List ℕ)). Stands file k.at (spell_all spell_set l) next) (sym m.whole) m.stood) in
+          let listed : Stands file c (spell (length sets) ++ spell_all spell_set sets) next.at =
+          stands_append {mid = k.at} (spell (length sets)) (spell_all spell_set sets) (rw long j.stood) (subst (λ (l : List (List ℕ)). Stands file k.at (spell_all spell_set l) next.at) (sym m.whole) m.stood) in
           let fine_sets : both (leb (length sets) 400) (every (good_set (length objects)) sets) ≡ true =
           both_true _ _ (le-leb (length sets) 400 (omega (arith, (within_bounds 0 400 n j.passes).1)))
           (subst (λ (l : List (List ℕ)). every (good_set (length objects)) l ≡ true) (sym m.whole) m.passes) in
-          coded objects sets next
+          coded objects sets next.at
           (record {
             a = early.a;
             b = early.b;
@@ -230,16 +263,16 @@ module _ (version : ℕ) (file : List ℕ) (p : Program) (fits : length file ≤
             versioned = early.versioned;
             counted = early.counted;
             stood = early.stood;
-            listed = subst (λ (t : Bool). Stands file c (spell_sets t sets) next) (sym has) listed;
+            listed = subst (λ (t : Bool). Stands file c (spell_sets t sets) next.at) (sym has) listed;
             few = early.few;
             fine = early.fine;
             fine_sets = subst (λ (t : Bool). good_sets t (length objects) sets ≡ true) (sym has) fine_sets;
-          }) (judged Cause.Count (within 1 (most_code version)) file next) refl w
-      go (Parsed.refused q) s w = let z : ◌≡◌ {A = ℕ} 0 1 = cc in absurd (omega arith)
+          }) (judged Cause.Count (within 1 (most_code version)) file next.at) refl w
+      go (Err q) s w = let z : ◌≡◌ {A = ℕ} 0 1 = cc in absurd (omega arith)
   with_sets objects c has early (Err q) r w = let z : ◌≡◌ {A = ℕ} 0 1 = cc in absurd (omega arith)
 
   no_sets_lem : (objects : List Object) (c : ℕ) → has_sets version ≡ false → Early objects c
-      → after_sets version file objects (got [] c) ≡ whole p → Right
+      → after_sets version file objects (Ok ([], cursor c)) ≡ whole p → Right
   no_sets_lem objects c has early w =
       coded objects [] c
       (record {
@@ -256,14 +289,15 @@ module _ (version : ℕ) (file : List ℕ) (p : Program) (fits : length file ≤
       }) (judged Cause.Count (within 1 (most_code version)) file c) refl w
 
   listed : (objects : List Object) (c : ℕ) → Early objects c → (t : Bool) → has_sets version ≡ t
-      → elim t as (λ _. Reading) [ true ↦ after_set_count version file objects (judged Cause.Count (within 0 400) file c) | false ↦ after_sets version file objects (got [] c) ] ≡ whole p → Right
+      → after_sets version file objects (listing_of version file t objects c) ≡ whole p → Right
   listed objects c early true has w = with_sets objects c has early (judged Cause.Count (within 0 400) file c) refl w
   listed objects c early false has w = no_sets_lem objects c has early w
 
   told : (a b n : ℕ) → Stands file 0 (spell version) a → Judged file a (within 0 400) n b
-      → (r : Parsed (List Object)) → objects_from n version file b [] ≡ r → after_objects version file r ≡ whole p → Right
-  told a b n v j (got objects c) r w =
-      let s = objects_of_read n version file b c objects r in
+      → (r : Answer (List Object)) → several n (read_object version file) b [] ≡ r → after_objects version file r ≡ whole p → Right
+  told a b n v j (Ok (objects, past)) r w =
+      let c : ℕ = past.at in
+      let s = objects_of_read n version file b objects past r in
       let long : length objects ≡ n = ap length s.whole ∙ s.number in
       listed objects c
       (record {
@@ -275,15 +309,15 @@ module _ (version : ℕ) (file : List ℕ) (p : Program) (fits : length file ≤
         few = omega (arith, (within_bounds 0 400 n j.passes).1);
         fine = subst (λ (l : List Object). every (good_object version) l ≡ true) (sym s.whole) s.passes;
       }) (has_sets version) refl w
-  told a b n v j (Parsed.refused q) r w = let z : ◌≡◌ {A = ℕ} 0 1 = cc in absurd (omega arith)
+  told a b n v j (Err q) r w = let z : ◌≡◌ {A = ℕ} 0 1 = cc in absurd (omega arith)
 
   counted : (a : ℕ) → Stands file 0 (spell version) a → (r : Read) → judged Cause.Count (within 0 400) file a ≡ r → after_object_count version file r ≡ whole p → Right
-  counted a v (Ok (n, k)) r w = told a k.at n v (judged_of_read 5 (within 0 400) file a r) (objects_from n version file k.at []) refl w
+  counted a v (Ok (n, k)) r w = told a k.at n v (judged_of_read Cause.Count (within 0 400) file a r) (several n (read_object version file) k.at []) refl w
   counted a v (Err q) r w = let z : ◌≡◌ {A = ℕ} 0 1 = cc in absurd (omega arith)
 
   versioned : (r : Read) → judged Cause.Version (within version version) file 0 ≡ r → after_version version file r ≡ whole p → Right
   versioned (Ok (n, k)) r w =
-      let j = judged_of_read 4 (within version version) file 0 r in
+      let j = judged_of_read Cause.Version (within version version) file 0 r in
       let (low, high) = within_bounds version version n j.passes in
       let same : n ≡ version = omega arith in
       counted k.at (rw same at j.stood) (judged Cause.Count (within 0 400) file k.at) refl w
@@ -299,7 +333,7 @@ one_spelling version file p e = go (leb (length file) (longest version)) refl
         let fits : length file ≤ longest version = leb-true (length file) (longest version) q in
         versioned version file p fits (judged Cause.Version (within version version) file 0) refl (sym (read_by_parts file version fits) ∙ e)
     go false q =
-        let long : read_file version file ≡ Reading.refused (record { number = 1; place = 0 }) = rw (q, read_file) in
+        let long : read_file version file ≡ Reading.refused (refusal Cause.TooLong 0) = rw (q, read_file) in
         let z : ◌≡◌ {A = ℕ} 0 1 = cc in
         absurd (omega arith)
 
@@ -322,27 +356,27 @@ scope_bounded version p g =
     code_few false = omega arith
 
 module _ (version : ℕ) (small : version < 2 ^ 32) (file : List ℕ) (p : Program) (g : Good version p) (s : Pieces version file p) where
-  read_end : after_code file p.objects p.sets (got p.code (length file)) ≡ whole p
-  read_end = simp (eq-eqb (length file) (length file) refl, after_code)
+  read_end : after_code version file p.objects p.sets (Ok (p.code, cursor (length file))) ≡ whole p
+  read_end = simp (eq-eqb (length file) (length file) refl, ends_there)
 
-  read_code : after_sets version file p.objects (got p.sets s.d) ≡ whole p
+  read_code : after_sets version file p.objects (Ok (p.sets, cursor s.d)) ≡ whole p
   read_code =
       ap (after_code_count version file p.objects p.sets)
-      (read_of_judged 5 (within 1 (most_code version)) file s.d
+      (read_of_judged Cause.Count (within 1 (most_code version)) file s.d
       (record { stood = s.lines; passes = g.code_most; small = (scope_bounded version p g).code }))
-      ∙ ap (after_code file p.objects p.sets)
+      ∙ ap (after_code version file p.objects p.sets)
       (read_of_code (scope_of version p) (scope_bounded version p g) file s.e (length file) p.code s.code g.code)
       ∙ read_end
 
   read_sets : (t : Bool) → Stands file s.c (spell_sets t p.sets) s.d → good_sets t (length p.objects) p.sets ≡ true
       → ◌≡◌ {A = Reading}
-      (elim t [ true ↦ after_set_count version file p.objects (judged Cause.Count (within 0 400) file s.c) | false ↦ after_sets version file p.objects (got [] s.c) ])
+      (after_sets version file p.objects (listing_of version file t p.objects s.c))
       (whole p)
   read_sets true stood good =
       let few : length p.sets ≤ 400 = leb-true (length p.sets) 400 (both_left (leb (length p.sets) 400) (every (good_set (length p.objects)) p.sets) good) in
       let (first, rest) = stands_split (spell (length p.sets)) (spell_all spell_set p.sets) stood in
       ap (after_set_count version file p.objects)
-      (read_of_judged 5 (within 0 400) file s.c
+      (read_of_judged Cause.Count (within 0 400) file s.c
       (record { stood = first; passes = within_true 0 400 (length p.sets) (omega arith) few; small = omega arith }))
       ∙ ap (after_sets version file p.objects)
       (read_of_sets (length p.objects) (omega (arith, g.objects_most)) file _ s.d p.sets rest
@@ -351,8 +385,8 @@ module _ (version : ℕ) (small : version < 2 ^ 32) (file : List ℕ) (p : Progr
   read_sets false stood good =
       let none : p.sets ≡ [] = no_sets_of p.sets (eqb-true (length p.sets) 0 good) in
       let here : s.c ≡ s.d = sym (omega (arith, stood.ends)) in
-      ap (λ (l : List (List ℕ)). after_sets version file p.objects (got l s.c)) (sym none)
-      ∙ ap (λ (n : ℕ). after_sets version file p.objects (got p.sets n)) here ∙ read_code
+      ap (λ (l : List (List ℕ)). after_sets version file p.objects (Ok (l, cursor s.c))) (sym none)
+      ∙ ap (λ (n : ℕ). after_sets version file p.objects (Ok (p.sets, cursor n))) here ∙ read_code
     where
       no_sets_of : (l : List (List ℕ)) → length l ≡ 0 → l ≡ []
       no_sets_of [] e = refl
@@ -361,10 +395,10 @@ module _ (version : ℕ) (small : version < 2 ^ 32) (file : List ℕ) (p : Progr
   read_of_pieces : after_version version file (judged Cause.Version (within version version) file 0) ≡ whole p
   read_of_pieces =
       ap (after_version version file)
-      (read_of_judged 4 (within version version) file 0
+      (read_of_judged Cause.Version (within version version) file 0
       (record { stood = s.versioned; passes = within_true version version version (omega arith) (omega arith); small = small }))
       ∙ ap (after_object_count version file)
-      (read_of_judged 5 (within 0 400) file s.a
+      (read_of_judged Cause.Count (within 0 400) file s.a
       (record { stood = s.counted; passes = within_true 0 400 (length p.objects) (omega arith) g.objects_most; small = omega (arith, g.objects_most) }))
       ∙ ap (after_objects version file) (read_of_objects version file s.b s.c p.objects s.objects g.objects)
       ∙ read_sets (has_sets version) s.sets g.sets
@@ -400,6 +434,3 @@ reads_back version small p e =
 
 pub good_read : (version : ℕ) (file : List ℕ) (p : Program) → read_file version file ≡ whole p → Good version p
 good_read version file p e = good_of version p (one_spelling version file p e).good
-
-pub whole_not_refused : {q : Refusal} → ◌≡◌ {A = Outcome} (Outcome.Refused q) Outcome.Whole → ⊥
-whole_not_refused e = let z : ◌≡◌ {A = ℕ} 0 1 = cc in omega arith

@@ -2,31 +2,49 @@
 -- is done. All members together are no more than the bytes read.
 use mathlib.Core.Path.{◌≡◌, refl, sym, ap, ◌∙◌}
 use mathlib.Core.List.{List, [], ◌∷◌, ◌++◌, append_assoc, append-nil}
-use Prim.Native.Nat.{ℕ, suc, ◌+◌, ◌-◌, ◌<◌, ◌≤◌}
-use native.Mathlib.Nat.{sub-zero}
+use Prim.Native.Nat.{ℕ, suc, ◌+◌, ◌<◌, ◌≤◌}
 use native.Mathlib.Omega.{arith}
 use lib.ListN.{length, set, length-append}
 use lib.Seq.{sets}
+use Rattle.std.specs.Prelude.{Ok, Err}
 use Rattle.numbers.specs.declared.refusal.Refusal.{Refusal}
+use Rattle.numbers.specs.declared.Cursor.{Cursor}
 use Rattle.files.specs.Held.{filled, ends_from, joined}
 use Rattle.files.proofs.Filled.{filled_more, filled_run, length-filled}
+use Rattle.files.specs.Inside.{SetIs}
+use Rattle.files.proofs.Answered.{same_thing, same_cursor}
 use Rattle.files.proofs.MemberLoop.{set_bounds}
-use Rattle.files.specs.Parsing.{Parsed, got, refused, read_set, sets_from}
+use Rattle.files.proofs.Loop.{Progress, begin, onward}
+use Rattle.files.specs.Parsing.{Answer, read_set}
 
--- one turn
-module _ (left objects : ℕ) (file : List ℕ) (at : ℕ) (done : List (List ℕ)) where
-  abbrev turn : Parsed (List ℕ) → Parsed (List (List ℕ))
-  turn (got s next) = sets_from left objects file next (done ++ s ∷ [])
-  turn (refused q) = refused q
+-- ---- one set: what its reading's answer says
 
-  pub set_more : {s : List ℕ} {next : ℕ} → read_set objects file at ≡ got s next
-      → sets_from (suc left) objects file at done ≡ sets_from left objects file next (done ++ s ∷ [])
-  unfolding sets_from
-  set_more e = ap turn e
+pub record ASet (answer : Answer (List ℕ)) (end : ℕ) (next : Cursor) (before : List ℕ) (from : ℕ) (after : List ℕ) : Type 0 where
+  pub set : List ℕ
+  pub read : answer ≡ Ok (set, next)
+  pub last : end ≡ from + length set
+  pub room : after ≡ sets before from set
 
-  pub set_stops : {q : Refusal} → read_set objects file at ≡ refused q → sets_from (suc left) objects file at done ≡ refused q
-  unfolding sets_from
-  set_stops e = ap turn e
+pub a_set : (answer : Answer (List ℕ)) {r : Answer ℕ} {before : List ℕ} {from : ℕ} {after : List ℕ} {end : ℕ} {next : Cursor}
+    → SetIs answer r before from after → r ≡ Ok (end, next) → ASet answer end next before from after
+a_set (Ok s) {r} {before} {from} {after} {end} {next} h e =
+    let same : ◌≡◌ {A = Answer ℕ} (Ok (end, next)) (Ok (from + length s.0, s.1)) = sym e ∙ h.answer in
+    record { set = s.0; read = ap (λ (c : Cursor). Ok (s.0, c)) (sym (same_cursor same)); last = same_thing same; room = h.room }
+a_set (Err q) {r} {before} {from} {after} {end} {next} h e =
+    let clash : ◌≡◌ {A = Answer ℕ} (Ok (end, next)) (Err q) = sym e ∙ h in
+    let none : ⊥ = cc in
+    absurd none
+
+pub no_set : (answer : Answer (List ℕ)) (before : List ℕ) (from : ℕ) (after : List ℕ) {r : Answer ℕ} {q : Refusal}
+    → SetIs answer r before from after → r ≡ Err q → answer ≡ Err q
+no_set (Ok s) before from after {r} {q} h e =
+    let clash : ◌≡◌ {A = Answer ℕ} (Err q) (Ok (from + length s.0, s.1)) = sym e ∙ h.answer in
+    let none : ⊥ = cc in
+    absurd none
+no_set (Err p) before from after {r} {q} h e =
+    let same : ◌≡◌ {A = Answer ℕ} (Err q) (Err p) = sym e ∙ h in
+    let reason : p ≡ q = cc in
+    ap (λ (x : Refusal). Err x) reason
 
 -- ---- one set more
 
@@ -53,9 +71,7 @@ ends_length from (d ∷ done) = ap suc (ends_length (from + length d) done)
 
 pub record Gathering (objects count : ℕ) (file : List ℕ) (from : ℕ) (ends members : List ℕ) (place next i : ℕ) : Type 0 where
   pub done : List (List ℕ)
-  pub at_most : i ≤ count
-  pub counted : i ≡ length done
-  pub rest : sets_from (count - i) objects file next done ≡ sets_from count objects file from []
+  pub read : Progress (read_set objects file) count from next i done
   pub held_ends : ends ≡ filled 400 0 (ends_from 0 done)
   pub held_members : members ≡ filled 16384 0 (joined done)
   pub placed : place ≡ length (joined done)
@@ -67,29 +83,22 @@ pub start : (objects count : ℕ) (file : List ℕ) (from : ℕ) {ends members :
 unfolding ends_from joined
 start objects count file from e m =
     record
-    { done = []; at_most = omega arith; counted = refl; rest = rw sub-zero; held_ends = e; held_members = m; placed = refl; behind = omega arith; fits = omega arith }
+    { done = []; read = begin; held_ends = e; held_members = m; placed = refl; behind = omega arith; fits = omega arith }
 
 module _ {objects count : ℕ} {file : List ℕ} {from : ℕ} {ends members : List ℕ} {place next i : ℕ}
     (g : Gathering objects count file from ends members place next i) where
-  here : i < count → sets_from (suc (count - (i + 1))) objects file next g.done ≡ sets_from count objects file from []
-  here h =
-      let one : suc (count - (i + 1)) ≡ count - i = omega arith in
-      ap (λ (n : ℕ). sets_from n objects file next g.done) one ∙ g.rest
-
-  pub more : i < count → count ≤ 400 → length file ≤ 16384 → {s : List ℕ} {behind : ℕ} {after : List ℕ} {end : ℕ}
-      → read_set objects file next ≡ got s behind → after ≡ sets members place s → end ≡ place + length s
-      → Gathering objects count file from (set ends i end) after end behind (i + 1)
-  more h few short {s} {behind} {after} e room last =
+  pub more : i < count → count ≤ 400 → length file ≤ 16384 → {s : List ℕ} {past : Cursor} {after : List ℕ} {end : ℕ}
+      → read_set objects file next ≡ Ok (s, past) → after ≡ sets members place s → end ≡ place + length s
+      → Gathering objects count file from (set ends i end) after end past.at (i + 1)
+  more h few short {s} {past} {after} e room last =
       let b = set_bounds objects file next e in
       let fits : place + length s ≤ 16384 = omega (arith, b.0, b.1, g.behind) in
-      let first : i ≡ length (ends_from 0 g.done) = g.counted ∙ sym (ends_length 0 g.done) in
+      let first : i ≡ length (ends_from 0 g.done) = g.read.counted ∙ sym (ends_length 0 g.done) in
       let total : place + length s ≡ 0 + length (joined g.done) + length s = omega (arith, g.placed) in
       rw last
       (record {
         done = g.done ++ s ∷ [];
-        at_most = omega arith;
-        counted = rw length-append (omega (arith, g.counted));
-        rest = sym (set_more (count - (i + 1)) objects file next g.done e) ∙ here h;
+        read = onward g.read h e;
         held_ends =
             ap (λ (l : List ℕ). set l i (place + length s)) g.held_ends
             ∙ filled_more 400 0 (ends_from 0 g.done) (place + length s) i first (omega arith)
@@ -106,12 +115,3 @@ module _ {objects count : ℕ} {file : List ℕ} {from : ℕ} {ends members : Li
   -- the room for members keeps its length
   pub roomy : length members ≡ 16384
   roomy = ap length g.held_members ∙ length-filled 16384 0 (joined g.done) (omega (arith, g.placed, g.fits))
-
-  pub stops : i < count → {q : Refusal} → read_set objects file next ≡ refused q → sets_from count objects file from [] ≡ refused q
-  stops h e = sym (here h) ∙ set_stops (count - (i + 1)) objects file next g.done e
-
-  pub finishes : count ≤ i → sets_from count objects file from [] ≡ got g.done next
-  unfolding sets_from
-  finishes h =
-      let none : 0 ≡ count - i = omega (arith, g.at_most) in
-      sym g.rest ∙ ap (λ (n : ℕ). sets_from n objects file next g.done) (sym none)

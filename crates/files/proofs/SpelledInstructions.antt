@@ -24,8 +24,9 @@ use Rattle.files.specs.Reading.{judged}
 use Rattle.files.specs.Writing.{spell_if, spell_operands, spell_parts, spell_instr, good_operand, good_operands, good_parts, good_instr}
 use Rattle.files.proofs.SpelledNumbers.{Stands, stands_nil, stands_append, stands_split, Judged, judged_of_read, read_of_judged, optional_of_read, read_of_optional}
 use Rattle.files.proofs.OneInstr.{an_opcode, an_operand}
+use Rattle.files.proofs.Answered.{same_thing, same_cursor}
 use Rattle.files.proofs.Tests.{both_true, both_left, both_right}
-use Rattle.files.specs.Parsing.{cursor, on_number, operand_at, operands_at, read_instr}
+use Rattle.files.specs.Parsing.{cursor, then, operand_at, operands_at, read_instr}
 
 -- ---- operands
 
@@ -88,18 +89,18 @@ module _ (scope : Scope) (file : List ℕ) where
   found : (kinds : List Operand) (from : Cursor) (k : List ℕ → Instr) (i : Instr) (c : Cursor)
       → operands_at scope kinds file from k ≡ Ok (i, c) → Found kinds from.at k i c.at
   found [] from k i c e =
-      let made : k [] ≡ i = cc in
-      let ends : from ≡ c = cc in
+      let made : k [] ≡ i = same_thing e in
+      let ends : from ≡ c = same_cursor e in
       record { numbers = []; many = refl; made = made; stood = subst (λ (d : Cursor). Stands file from.at [] d.at) ends (stands_nil file from.at); passes = refl }
   found (kind ∷ kinds) from k i c e =
       go (operand_at scope kind file from.at) refl e (λ n next. found kinds next (λ ns. k (n ∷ ns)) i c)
     where
       go : (r : Read) → operand_at scope kind file from.at ≡ r
-          → on_number r (λ n next. operands_at scope kinds file next (λ ns. k (n ∷ ns))) ≡ Ok (i, c)
+          → then r (λ n next. operands_at scope kinds file next (λ ns. k (n ∷ ns))) ≡ Ok (i, c)
           → ((n : ℕ) (next : Cursor) → operands_at scope kinds file next (λ ns. k (n ∷ ns)) ≡ Ok (i, c) → Found kinds next.at (λ ns. k (n ∷ ns)) i c.at)
           → Found (kind ∷ kinds) from.at k i c.at
       go (Ok (n, next)) r e more =
-          let o = optional_of_read (present scope.version kind) 6 (allowed scope kind) file from.at r in
+          let o = optional_of_read (present scope.version kind) Cause.Field (allowed scope kind) file from.at r in
           let f = more n next e in
           record {
             numbers = n ∷ f.numbers;
@@ -134,9 +135,9 @@ module _ (scope : Scope) (file : List ℕ) where
   instr_of_read at {i} {c} e = go (judged Cause.Field (has_opcode scope.version) file at) refl e
     where
       go : (r : Read) → judged Cause.Field (has_opcode scope.version) file at ≡ r
-          → on_number r (λ op next. operands_at scope (operands_of (row_of op)) file next (make op)) ≡ Ok (i, c) → Right at i c.at
+          → then r (λ op next. operands_at scope (operands_of (row_of op)) file next (make op)) ≡ Ok (i, c) → Right at i c.at
       go (Ok (op, n)) r e =
-          found_right at op n.at c.at (judged_of_read 6 _ file at r) (found (operands_of (row_of op)) n (make op) i c e)
+          found_right at op n.at c.at (judged_of_read Cause.Field _ file at r) (found (operands_of (row_of op)) n (make op) i c e)
       go (Err w) r e = let z : ◌≡◌ {A = ℕ} 0 1 = cc in absurd (omega arith)
 
 -- an operand that stands there and is good is read
@@ -144,7 +145,7 @@ read_of_operand : (scope : Scope) → Bounded scope → (file : List ℕ) (kind 
     → Stands file at (spell_if (present scope.version kind) n) next → good_operand scope kind n ≡ true
     → operand_at scope kind file at ≡ Ok (n, cursor next)
 read_of_operand scope bounded file kind at n next s g =
-    read_of_optional (present scope.version kind) 6 (allowed scope kind) file at
+    read_of_optional (present scope.version kind) Cause.Field (allowed scope kind) file at
     (record { stood = s; passes = g; small = small_of_good scope bounded kind n g })
 
 -- operands that stand there and are good are read
@@ -183,7 +184,7 @@ read_of_instr scope file at bounded i next s g =
     let (s₁, s₂) = stands_split (spell p.op) _ s in
     let good : GoodParts scope p = good_parts_lem scope p g in
     an_opcode scope file at
-    (read_of_judged 6 (has_opcode scope.version) file at
+    (read_of_judged Cause.Field (has_opcode scope.version) file at
     (record { stood = s₁; passes = good.opcode; small = omega (arith, opcode_below scope.version p.op good.opcode) }))
     ∙ read_of_operands scope bounded file (operands_of (row_of p.op)) (numbers_of p) _ (make p.op) next refl s₂ good.operands
     ∙ ap (λ (j : Instr). Ok (j, cursor next)) (make_parts i)

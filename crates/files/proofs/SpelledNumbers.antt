@@ -13,12 +13,14 @@ use lib.Dec.{eqb}
 use borrow.Author.Tests.{eqb-true}
 use Rattle.std.specs.Prelude.{Ok, Err}
 use Rattle.numbers.specs.Refusals.{refusal}
+use Rattle.numbers.specs.declared.refusal.Cause.{Cause}
 use Rattle.numbers.specs.declared.Cursor.{Cursor}
 use Rattle.numbers.specs.Number.{Read}
 use Rattle.numbers.specs.Number.{spell, read_number}
 use Rattle.numbers.proofs.Laws.{spelled_of_read, read_of_spelled}
 use Rattle.files.specs.Reading.{judge, judged}
 use Rattle.files.specs.Writing.{spell_if}
+use Rattle.files.proofs.Answered.{same_thing, same_cursor}
 use Rattle.files.specs.Parsing.{cursor}
 
 pub record Stands (file : List ℕ) (at : ℕ) (bytes : List ℕ) (next : ℕ) : Type 0 where
@@ -53,14 +55,13 @@ pub record Judged (file : List ℕ) (at : ℕ) (test : ℕ → Bool) (n next : �
   pub passes : test n ≡ true
   pub small : n < 2 ^ 32
 
-pub judged_of_read : (why : ℕ) (test : ℕ → Bool) (file : List ℕ) (at : ℕ) {n : ℕ} {c : Cursor} → judged why test file at ≡ Ok (n, c) → Judged file at test n c.at
+pub judged_of_read : (why : Cause) (test : ℕ → Bool) (file : List ℕ) (at : ℕ) {n : ℕ} {c : Cursor} → judged why test file at ≡ Ok (n, c) → Judged file at test n c.at
 judged_of_read why test file at {n} {c} e = go (read_number file at) refl e
   where
     tested : (m : ℕ) (d : Cursor) (b : Bool) → test m ≡ b → read_number file at ≡ Ok (m, d)
         → elim b as (λ _. Read) [ true ↦ Ok (m, d) | false ↦ Err (refusal why at) ] ≡ Ok (n, c) → Judged file at test n c.at
     tested m d true t r e =
-        let same : m ≡ n = cc in
-        let ends : d ≡ c = cc in
+        let same : m ≡ n = same_thing e in
         let s = spelled_of_read file at (r ∙ e) in
         record { stood = record { stands = s.stands; ends = s.ends }; passes = rw (← same) t; small = s.small }
     tested m d false t r e = let z : ◌≡◌ {A = ℕ} 0 1 = cc in absurd (omega arith)
@@ -69,14 +70,14 @@ judged_of_read why test file at {n} {c} e = go (read_number file at) refl e
     go (Ok (m, d)) r e = tested m d (test m) refl r e
     go (Err q) r e = let z : ◌≡◌ {A = ℕ} 0 1 = cc in absurd (omega arith)
 
-pub read_of_judged : (why : ℕ) (test : ℕ → Bool) (file : List ℕ) (at : ℕ) {n next : ℕ} → Judged file at test n next → judged why test file at ≡ Ok (n, cursor next)
+pub read_of_judged : (why : Cause) (test : ℕ → Bool) (file : List ℕ) (at : ℕ) {n next : ℕ} → Judged file at test n next → judged why test file at ≡ Ok (n, cursor next)
 read_of_judged why test file at {n} {next} j =
     let r : read_number file at ≡ Ok (n, cursor next) = read_of_spelled file at (record { stands = j.stood.stands; ends = j.stood.ends; small = j.small }) in
     ap (judge why at test) r ∙ simp (j.passes, judge)
 
 -- ---- a number that stands in the file or does not
 
-abbrev pub optional : Bool → (why : ℕ) → (ℕ → Bool) → List ℕ → (at : ℕ) → Read
+abbrev pub optional : Bool → Cause → (ℕ → Bool) → List ℕ → (at : ℕ) → Read
 optional b why test file at = elim b [ true ↦ judged why test file at | false ↦ Ok (0, cursor at) ]
 
 abbrev pub good_if : Bool → (ℕ → Bool) → ℕ → Bool
@@ -87,18 +88,18 @@ pub record Optional (file : List ℕ) (at : ℕ) (b : Bool) (test : ℕ → Bool
   pub passes : good_if b test n ≡ true
   pub small : n < 2 ^ 32
 
-pub optional_of_read : (b : Bool) (why : ℕ) (test : ℕ → Bool) (file : List ℕ) (at : ℕ) {n : ℕ} {c : Cursor}
+pub optional_of_read : (b : Bool) (why : Cause) (test : ℕ → Bool) (file : List ℕ) (at : ℕ) {n : ℕ} {c : Cursor}
     → optional b why test file at ≡ Ok (n, c) → Optional file at b test n c.at
 optional_of_read true why test file at e =
     let j = judged_of_read why test file at e in
     record { stood = j.stood; passes = j.passes; small = j.small }
 optional_of_read false why test file at {n} {c} e =
-    let none : n ≡ 0 = cc in
-    let here : c ≡ cursor at = cc in
+    let none : n ≡ 0 = sym (same_thing e) in
+    let here : c ≡ cursor at = sym (same_cursor e) in
     record { stood = rw here (stands_nil file at); passes = rw none; small = omega arith }
 
 -- a test passes only numbers of 32 bits, where that is asked
-pub read_of_optional : (b : Bool) (why : ℕ) (test : ℕ → Bool) (file : List ℕ) (at : ℕ) {n next : ℕ}
+pub read_of_optional : (b : Bool) (why : Cause) (test : ℕ → Bool) (file : List ℕ) (at : ℕ) {n next : ℕ}
     → Optional file at b test n next → optional b why test file at ≡ Ok (n, cursor next)
 read_of_optional true why test file at j =
     read_of_judged why test file at (record { stood = j.stood; passes = j.passes; small = j.small })

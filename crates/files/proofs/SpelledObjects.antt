@@ -18,9 +18,10 @@ use Rattle.opcodes.specs.Ranges.{within, is_color}
 use Rattle.files.specs.Program.{has_colors}
 use Rattle.files.specs.Reading.{judged}
 use Rattle.files.specs.Writing.{spell_if, spell_object, good_object, both}
+use Rattle.files.proofs.Answered.{same_thing, same_cursor}
 use Rattle.files.proofs.Tests.{both_true, both_left, both_right}
 use Rattle.files.proofs.SpelledNumbers.{Stands, stands_append, stands_split, Judged, judged_of_read, read_of_judged, good_if, Optional, optional_of_read, read_of_optional}
-use Rattle.files.specs.Parsing.{cursor, read_object, after_kind, after_size, after_color, size_at, color_at}
+use Rattle.files.specs.Parsing.{Answer, then, cursor, read_object, size_at, color_at}
 
 -- a color that stands there or does not is at most 255
 pub color_most : (b : Bool) (n : ℕ) → good_if b is_color n ≡ true → n ≤ 255
@@ -28,6 +29,16 @@ color_most false n e = omega (arith, eqb-true n 0 e)
 color_most true n e = color_small n e
 
 -- ---- an object
+
+-- what is left to read behind the color, the size and the kind
+abbrev after_color : (kind size : ℕ) → Read → Answer Object
+after_color kind size r = then r λ color next. Ok (record { kind = kind; size = size; color = color }, next)
+
+abbrev after_size : (version : ℕ) → List ℕ → (kind : ℕ) → Read → Answer Object
+after_size version file kind r = then r λ size past_size. after_color kind size (color_at version file past_size.at)
+
+abbrev after_kind : (version : ℕ) → List ℕ → Read → Answer Object
+after_kind version file r = then r λ kind past_kind. after_size version file kind (size_at file kind past_kind.at)
 
 -- the size's part of a good object
 abbrev good_size : (kind size : ℕ) → Bool
@@ -68,9 +79,9 @@ object_of_read version file at {o} {c} e = kinds (judged Cause.Field (within 0 1
         → (r : Read) → color_at version file last ≡ r → after_color kind size r ≡ Ok (o, c)
         → Stands file at (spell_object version o) c.at × (good_object version o ≡ true)
     colors kind size mid last k s (Ok (color, d)) r e =
-        let made : record { kind = kind; size = size; color = color } ≡ o = cc in
-        let ends : d ≡ c = cc in
-        let t = optional_of_read (has_colors version) 6 is_color file last r in
+        let made : record { kind = kind; size = size; color = color } ≡ o = same_thing e in
+        let ends : d ≡ c = same_cursor e in
+        let t = optional_of_read (has_colors version) Cause.Field is_color file last r in
         subst (λ (x : Object). Stands file at (spell_object version x) c.at × (good_object version x ≡ true)) made
         (rw (← ends) (
           stands_append (spell kind) (spell_if (eqb kind 0) size ++ spell_if (has_colors version) color) k.stood
@@ -82,12 +93,12 @@ object_of_read version file at {o} {c} e = kinds (judged Cause.Field (within 0 1
     sizes : (kind mid : ℕ) → Judged file at (within 0 1) kind mid → (r : Read) → size_at file kind mid ≡ r → after_size version file kind r ≡ Ok (o, c)
         → Stands file at (spell_object version o) c.at × (good_object version o ≡ true)
     sizes kind mid k (Ok (size, d)) r e =
-        colors kind size mid d.at k (optional_of_read (eqb kind 0) 6 (within 1 4096) file mid r) (color_at version file d.at) refl e
+        colors kind size mid d.at k (optional_of_read (eqb kind 0) Cause.Field (within 1 4096) file mid r) (color_at version file d.at) refl e
     sizes kind mid k (Err q) r e = let z : ◌≡◌ {A = ℕ} 0 1 = cc in absurd (omega arith)
 
     kinds : (r : Read) → judged Cause.Field (within 0 1) file at ≡ r → after_kind version file r ≡ Ok (o, c)
         → Stands file at (spell_object version o) c.at × (good_object version o ≡ true)
-    kinds (Ok (kind, d)) r e = sizes kind d.at (judged_of_read 6 (within 0 1) file at r) (size_at file kind d.at) refl e
+    kinds (Ok (kind, d)) r e = sizes kind d.at (judged_of_read Cause.Field (within 0 1) file at r) (size_at file kind d.at) refl e
     kinds (Err q) r e = let z : ◌≡◌ {A = ℕ} 0 1 = cc in absurd (omega arith)
 
 -- a good object whose spelling stands there is read
@@ -101,6 +112,6 @@ read_of_object version file at next o s g =
     let (second, third) = stands_split (spell_if (eqb kind 0) o.size) _ rest in
     let sized = sized_of kind o.size (both_left (good_size kind o.size) _ g) in
     let colored = both_right (good_size kind o.size) _ g in
-    ap (after_kind version file) (read_of_judged 6 (within 0 1) file at (record { stood = first; passes = sized.kinds; small = omega (arith, sized.kind_most) }))
-    ∙ ap (after_size version file kind) (read_of_optional (eqb kind 0) 6 (within 1 4096) file mid (record { stood = second; passes = sized.sizes; small = omega (arith, sized.size_most) }))
-    ∙ ap (after_color kind o.size) (read_of_optional (has_colors version) 6 is_color file last (record { stood = third; passes = colored; small = omega (arith, color_most (has_colors version) o.color colored) }))
+    ap (after_kind version file) (read_of_judged Cause.Field (within 0 1) file at (record { stood = first; passes = sized.kinds; small = omega (arith, sized.kind_most) }))
+    ∙ ap (after_size version file kind) (read_of_optional (eqb kind 0) Cause.Field (within 1 4096) file mid (record { stood = second; passes = sized.sizes; small = omega (arith, sized.size_most) }))
+    ∙ ap (after_color kind o.size) (read_of_optional (has_colors version) Cause.Field is_color file last (record { stood = third; passes = colored; small = omega (arith, color_most (has_colors version) o.color colored) }))

@@ -1,183 +1,152 @@
 -- The whole file, part by part: each part that was read leads to the next, and the first refusal is the file's.
-use mathlib.Core.Path.{◌≡◌, refl, sym, ap, ap₂, ◌∙◌}
-use mathlib.Core.List.{List}
+use mathlib.Core.Path.{◌≡◌, refl, ap, ap₂, ◌∙◌}
+use mathlib.Core.List.{List, [], ◌∷◌, ◌++◌}
 use mathlib.Core.Bool.{Bool, true, false}
-use Prim.Native.Nat.{ℕ, ◌≤◌, ◌<◌}
-use lib.ListN.{length, take, length-map}
+use Prim.Native.Nat.{ℕ, zero, suc, ◌+◌, ◌≤◌, ◌<◌}
+use native.Mathlib.Omega.{arith}
+use lib.ListN.{length, take, length-append}
 use borrow.Author.Tests.{lt-leb, eq-eqb, ne_eqb}
 use Rattle.std.specs.Prelude.{Ok, Err}
 use Rattle.numbers.specs.declared.refusal.Cause.{Cause}
-use Rattle.numbers.specs.Refusals.{refusal}
-use Rattle.numbers.specs.declared.Cursor.{Cursor}
 use Rattle.numbers.specs.declared.refusal.Refusal.{Refusal}
+use Rattle.numbers.specs.declared.Cursor.{Cursor}
+use Rattle.numbers.specs.Refusals.{refusal}
 use Rattle.numbers.specs.Number.{Read}
 use Rattle.opcodes.specs.declared.Object.{Object}
 use Rattle.opcodes.specs.declared.Instr.{Instr}
-use Rattle.files.specs.declared.Outcome.{Outcome}
-use Rattle.files.specs.declared.Ended.{Ended}
-use Rattle.files.specs.declared.objects.Objects.{Objects}
-use Rattle.files.specs.declared.sets.Sets.{Sets}
-use Rattle.files.specs.declared.lines.Code.{Code}
-use Rattle.opcodes.specs.Ranges.{has_sets, within}
-use Rattle.files.specs.Program.{longest, most_code}
-use Rattle.opcodes.specs.Ranges.{kinds_of}
+use Rattle.opcodes.specs.Ranges.{has_sets, within, kinds_of}
+use Rattle.opcodes.proofs.Bounds.{within_bounds}
+use Rattle.files.specs.declared.arrays.Objects.{Objects}
+use Rattle.files.specs.declared.arrays.Sets.{Sets}
+use Rattle.files.specs.declared.arrays.Code.{Code}
+use Rattle.files.specs.declared.arrays.Loaded.{Loaded}
+use Rattle.files.specs.Program.{longest}
 use Rattle.files.specs.Reading.{Reading, whole, judged, read_file}
-use Rattle.files.specs.Held.{held, held_as}
-use Rattle.files.specs.Inside.{objects_after, objects_behind, objects_of, sets_after, sets_of, code_after, code_of, ObjectsAre, ObjectsHeld, SetsAre, SetsHeld, CodeIs, CodeHeld, whole_of}
-use Rattle.files.proofs.Following.{read_by_parts}
+use Rattle.files.specs.Held.{held_as, objects_held, sets_held, code_held, blank}
+use Rattle.files.specs.Parsing.{Answer, then, several, hold, cursor, read_object, read_set, objects_of, sets_of, code_of, ends_there, behind}
+use Rattle.files.proofs.Answered.{same_thing}
 use Rattle.files.proofs.Filled.{take-filled}
-use Rattle.files.proofs.Parts.{objects_read, objects_refused, sets_read, sets_refused, code_read, code_refused}
-use Rattle.files.specs.Parsing.{got, after_version, after_object_count, after_objects, after_set_count, after_sets, after_code_count, after_code}
+use Rattle.files.proofs.Following.{read_by_parts}
+use Rattle.files.proofs.Judging.{good}
+
+-- ---- how many things a sequence has
+
+pub several_length : {A : Type 0} (left : ℕ) (one : ℕ → Answer A) (at : ℕ) (done : List A) {all : List A} {next : Cursor}
+    → several left one at done ≡ Ok (all, next) → length all ≡ left + length done
+unfolding several
+several_length zero one at done e = let l = ap length (same_thing e) in omega arith
+several_length {A} (suc left) one at done {all} {next} e = go (one at) (λ x past. several_length left one past (done ++ x ∷ [])) e
+  where
+    go : (r : Answer A)
+        → ((x : A) (past : ℕ) → several left one past (done ++ x ∷ []) ≡ Ok (all, next) → length all ≡ left + length (done ++ x ∷ []))
+        → then r (λ x past. several left one past.at (done ++ x ∷ [])) ≡ Ok (all, next) → length all ≡ suc left + length done
+    go (Ok r) ih f = let l = ih r.0 r.1.at f in let m = length-append done (r.0 ∷ []) in omega arith
+    go (Err q) ih f =
+        let clash : ◌≡◌ {A = Answer (List A)} (Err q) (Ok (all, next)) = f in
+        let none : ⊥ = cc in
+        absurd none
+
+-- after a count from 0 to 400
+few : {A : Type 0} (one : ℕ → Answer A) (file : List ℕ) (at : ℕ) {all : List A} {next : Cursor}
+    → then (judged Cause.Count (within 0 400) file at) (λ count past. several count one past.at []) ≡ Ok (all, next) → length all ≤ 400
+few {A} one file at {all} {next} e = go (judged Cause.Count (within 0 400) file at) refl e
+  where
+    go : (r : Read) → judged Cause.Count (within 0 400) file at ≡ r
+        → then r (λ count past. several count one past.at []) ≡ Ok (all, next) → length all ≤ 400
+    go (Ok (n, c)) r f =
+        let g = good Cause.Count (within 0 400) file at r in
+        let b = within_bounds 0 400 n g.right in
+        let l = several_length n one c.at [] f in
+        omega (arith, b.1)
+    go (Err q) r f =
+        let clash : ◌≡◌ {A = Answer (List A)} (Err q) (Ok (all, next)) = f in
+        let none : ⊥ = cc in
+        absurd none
+
+pub few_objects : (version : ℕ) (file : List ℕ) {os : List Object} {next : Cursor} → objects_of version file ≡ Ok (os, next) → length os ≤ 400
+few_objects version file {os} {next} e = go (judged Cause.Version (within version version) file 0) e
+  where
+    go : (r : Read)
+        → then r (λ this past. then (judged Cause.Count (within 0 400) file past.at) (λ count past. several count (read_object version file) past.at [])) ≡ Ok (os, next)
+        → length os ≤ 400
+    go (Ok r) f = few (read_object version file) file r.1.at f
+    go (Err q) f =
+        let clash : ◌≡◌ {A = Answer (List Object)} (Err q) (Ok (os, next)) = f in
+        let none : ⊥ = cc in
+        absurd none
+
+pub few_sets : (version objects : ℕ) (file : List ℕ) (at : ℕ) {ss : List (List ℕ)} {next : Cursor} → sets_of version objects file at ≡ Ok (ss, next) → length ss ≤ 400
+few_sets version objects file at {ss} {next} e = go (has_sets version) e
+  where
+    go : (b : Bool)
+        → ◌≡◌ {A = Answer (List (List ℕ))} (elim b [ true ↦ then (judged Cause.Count (within 0 400) file at) (λ n past. several n (read_set objects file) past.at []) | false ↦ Ok ([], cursor at) ]) (Ok (ss, next))
+        → length ss ≤ 400
+    go true f = few (read_set objects file) file at f
+    go false f = let none : [] ≡ ss = same_thing f in let l : 0 ≡ length ss = ap length none in omega arith
 
 -- ---- the definition, part by part
 
 module _ (version : ℕ) (file : List ℕ) where
+  abbrev after_sets : List Object → List (List ℕ) → Cursor → Reading
+  after_sets os ss past =
+      behind (code_of version (kinds_of os) (length ss) file past.at) λ code next.
+      ends_there file (record { objects = os; sets = ss; code = code }) next
+
+  abbrev after_objects : List Object → Cursor → Reading
+  after_objects os past = behind (sets_of version (length os) file past.at) (after_sets os)
+
   pub too_long_lem : longest version < length file → read_file version file ≡ Reading.refused (refusal Cause.TooLong 0)
   unfolding read_file
   too_long_lem h = rw (lt-leb _ _ h, read_file)
 
-  by_count : (r : Read) → after_object_count version file r ≡ after_objects version file (objects_after version file r)
-  by_count (Ok (n, next)) = refl
-  by_count (Err q) = refl
+  module _ (fits : length file ≤ longest version) where
+    pub no_objects : {q : Refusal} → objects_of version file ≡ Err q → read_file version file ≡ Reading.refused q
+    no_objects e = read_by_parts file version fits ∙ ap (λ r. behind r after_objects) e
 
-  by_version : (r : Read) → after_version version file r ≡ after_objects version file (objects_behind version file r)
-  by_version (Ok (n, next)) = by_count (judged Cause.Count (within 0 400) file next.at)
-  by_version (Err q) = refl
+    module _ {os : List Object} {past_objects : Cursor} (o : objects_of version file ≡ Ok (os, past_objects)) where
+      some_objects : read_file version file ≡ after_objects os past_objects
+      some_objects = read_by_parts file version fits ∙ ap (λ r. behind r after_objects) o
 
-  pub by_objects : length file ≤ longest version → read_file version file ≡ after_objects version file (objects_of version file)
-  by_objects h = read_by_parts file version h ∙ by_version (judged Cause.Version (within version version) file 0)
+      pub no_sets : {q : Refusal} → sets_of version (length os) file past_objects.at ≡ Err q → read_file version file ≡ Reading.refused q
+      no_sets e = some_objects ∙ ap (λ r. behind r (after_sets os)) e
 
-  by_set_count : (os : List Object) (r : Read) → after_set_count version file os r ≡ after_sets version file os (sets_after (length os) file r)
-  by_set_count os (Ok (n, next)) = refl
-  by_set_count os (Err q) = refl
+      module _ {ss : List (List ℕ)} {past_sets : Cursor} (s : sets_of version (length os) file past_objects.at ≡ Ok (ss, past_sets)) where
+        abbrev after_code : List Instr → Cursor → Reading
+        after_code code next = ends_there file (record { objects = os; sets = ss; code = code }) next
 
-  pub by_sets : (os : List Object) (at : ℕ)
-      → after_objects version file (got os at) ≡ after_sets version file os (sets_of version (length os) file at)
-  by_sets os at = go (has_sets version) refl
-    where
-      go : (b : Bool) → has_sets version ≡ b → after_objects version file (got os at) ≡ after_sets version file os (sets_of version (length os) file at)
-      go true e = simp (e, after_objects, sets_of) (by_set_count os (judged Cause.Count (within 0 400) file at))
-      go false e = simp (e, after_objects, sets_of)
+        some_sets : read_file version file ≡ after_sets os ss past_sets
+        some_sets = some_objects ∙ ap (λ r. behind r (after_sets os)) s
 
-  by_code_count : (os : List Object) (ss : List (List ℕ)) (r : Read)
-      → after_code_count version file os ss r ≡ after_code file os ss (code_after version (kinds_of os) (length ss) file r)
-  by_code_count os ss (Ok (n, next)) = refl
-  by_code_count os ss (Err q) = refl
+        pub no_code : {q : Refusal} → code_of version (kinds_of os) (length ss) file past_sets.at ≡ Err q → read_file version file ≡ Reading.refused q
+        no_code e = some_sets ∙ ap (λ r. behind r after_code) e
 
-  pub by_code : (os : List Object) (ss : List (List ℕ)) (at : ℕ)
-      → after_sets version file os (got ss at) ≡ after_code file os ss (code_of version (kinds_of os) (length ss) file at)
-  by_code os ss at = by_code_count os ss (judged Cause.Count (within 1 (most_code version)) file at)
+        module _ {is : List Instr} {next : Cursor} (k : code_of version (kinds_of os) (length ss) file past_sets.at ≡ Ok (is, next)) where
+          pub bytes_behind : (next.at ≡ length file → ⊥) → read_file version file ≡ Reading.refused (refusal Cause.Surplus next.at)
+          bytes_behind h = some_sets ∙ ap (λ r. behind r after_code) k ∙ simp (ne_eqb _ _ h, ends_there)
 
--- ---- what the parts' answers say
+          pub all_read : next.at ≡ length file → read_file version file ≡ whole (record { objects = os; sets = ss; code = is })
+          all_read e = some_sets ∙ ap (λ r. behind r after_code) k ∙ simp (eq-eqb _ _ e, ends_there)
 
--- the objects are read: the file goes on with its sets
-pub record PastObjects (version : ℕ) (file : List ℕ) (o : Objects) (past : Cursor) : Type 0 where
-  pub os : List Object
-  pub held : ObjectsHeld os past.at o
-  pub read : read_file version file ≡ after_sets version file os (sets_of version o.count file past.at)
+-- ---- what is handed from part to part
 
--- the sets are read: it goes on with its instructions
-pub record PastSets (version : ℕ) (file : List ℕ) (o : Objects) (s : Sets) (past : Cursor) : Type 0 where
-  pub os : List Object
-  pub before : ℕ
-  pub held_objects : ObjectsHeld os before o
-  pub ss : List (List ℕ)
-  pub held_sets : SetsHeld ss past.at s
-  pub read : read_file version file ≡ after_code file os ss (code_of version (take o.count o.kinds) s.count file past.at)
+module _ (os : List Object) {o : Objects} (e : o ≡ objects_held os) where
+  pub held_count : o.count ≡ length os
+  held_count = ap (λ (o : Objects). o.count) e
 
--- the instructions are read
-pub record PastCode (version : ℕ) (file : List ℕ) (o : Objects) (s : Sets) (k : Code) (next : Cursor) : Type 0 where
-  pub os : List Object
-  pub before_sets : ℕ
-  pub held_objects : ObjectsHeld os before_sets o
-  pub ss : List (List ℕ)
-  pub before_code : ℕ
-  pub held_sets : SetsHeld ss before_code s
-  pub is : List Instr
-  pub held_code : CodeHeld is next.at k
-  pub read : read_file version file ≡ after_code file os ss (got is next.at)
+  pub held_list : take o.count o.list ≡ os
+  held_list = ap (λ (o : Objects). take o.count o.list) e ∙ take-filled 400 blank os (length os) refl
 
--- the kinds that count
-pub kinds_are : {os : List Object} {n : ℕ} {o : Objects} → ObjectsHeld os n o → take o.count o.kinds ≡ kinds_of os
-kinds_are {os} {n} {o} h =
-    ap (take o.count) h.kinds ∙ take-filled 400 0 (kinds_of os) o.count (h.count ∙ sym (length-map os (λ o. o.kind)))
+  module _ (version : ℕ) (file : List ℕ) (at : ℕ) where
+    pub sets_behind : {r : Answer Sets} → r ≡ hold sets_held (sets_of version o.count file at) → r ≡ hold sets_held (sets_of version (length os) file at)
+    sets_behind f = f ∙ ap (λ (n : ℕ). hold sets_held (sets_of version n file at)) held_count
 
-module _ (version : ℕ) (file : List ℕ) where
-  pub no_objects : (o : Objects) {q : Refusal} → length file ≤ longest version → ObjectsAre (objects_of version file) o → o.ended ≡ Ended.Refused q
-      → read_file version file ≡ Reading.refused q
-  no_objects o short h e = by_objects version file short ∙ ap (after_objects version file) (objects_refused (objects_of version file) o h e)
+    pub code_behind : (ss : List (List ℕ)) {s : Sets} {r : Answer Code} → s ≡ sets_held ss
+        → r ≡ hold code_held (code_of version (kinds_of (take o.count o.list)) s.count file at)
+        → r ≡ hold code_held (code_of version (kinds_of os) (length ss) file at)
+    code_behind ss g f =
+        f ∙ ap₂ (λ (l : List Object) (s : Sets). hold code_held (code_of version (kinds_of l) s.count file at)) held_list g
 
-  pub past_objects : (o : Objects) {past : Cursor} → length file ≤ longest version → ObjectsAre (objects_of version file) o → o.ended ≡ Ended.Next past
-      → PastObjects version file o past
-  past_objects o {past} short h e =
-      let r = objects_read (objects_of version file) o h e in
-      record {
-        os = r.all;
-        held = r.held;
-        read =
-            by_objects version file short ∙ ap (after_objects version file) r.read ∙ by_sets version file r.all past.at
-            ∙ ap (λ (n : ℕ). after_sets version file r.all (sets_of version n file past.at)) (sym r.held.count);
-      }
-
-  module _ (o : Objects) (s : Sets) {past : Cursor} (p : PastObjects version file o past) (h : SetsAre (sets_of version o.count file past.at) s) where
-    pub no_sets_lem : {q : Refusal} → s.ended ≡ Ended.Refused q → read_file version file ≡ Reading.refused q
-    no_sets_lem e = p.read ∙ ap (after_sets version file p.os) (sets_refused (sets_of version o.count file past.at) s h e)
-
-    pub past_sets : {next : Cursor} → s.ended ≡ Ended.Next next → PastSets version file o s next
-    past_sets {next} e =
-        let r = sets_read (sets_of version o.count file past.at) s h e in
-        record {
-          os = p.os;
-          before = past.at;
-          held_objects = p.held;
-          ss = r.all;
-          held_sets = r.held;
-          read =
-              p.read ∙ ap (after_sets version file p.os) r.read ∙ by_code version file p.os r.all next.at
-              ∙ ap₂ (λ (ks : List ℕ) (n : ℕ). after_code file p.os r.all (code_of version ks n file next.at)) (sym (kinds_are p.held)) (sym r.held.count);
-        }
-
-  module _ (o : Objects) (s : Sets) (k : Code) {past : Cursor} (p : PastSets version file o s past)
-      (h : CodeIs (code_of version (take o.count o.kinds) s.count file past.at) k) where
-    pub no_code : {q : Refusal} → k.ended ≡ Ended.Refused q → read_file version file ≡ Reading.refused q
-    no_code e = p.read ∙ ap (after_code file p.os p.ss) (code_refused (code_of version (take o.count o.kinds) s.count file past.at) k h e)
-
-    pub past_code : {next : Cursor} → k.ended ≡ Ended.Next next → PastCode version file o s k next
-    past_code {next} e =
-        let r = code_read (code_of version (take o.count o.kinds) s.count file past.at) k h e in
-        record {
-          os = p.os;
-          before_sets = p.before;
-          held_objects = p.held_objects;
-          ss = p.ss;
-          before_code = past.at;
-          held_sets = p.held_sets;
-          is = r.all;
-          held_code = r.held;
-          read = p.read ∙ ap (after_code file p.os p.ss) r.read;
-        }
-
-  module _ {o : Objects} {s : Sets} {k : Code} {next : Cursor} (p : PastCode version file o s k next) where
-    pub bytes_behind : (next.at ≡ length file → ⊥) → read_file version file ≡ Reading.refused (refusal Cause.Surplus next.at)
-    bytes_behind h = p.read ∙ simp (ne_eqb _ _ h, after_code)
-
-    pub all_read : next.at ≡ length file → whole_of o s k ≡ held (read_file version file)
-    all_read e =
-        let ho = p.held_objects in
-        let hs = p.held_sets in
-        let hc = p.held_code in
-        let done : read_file version file ≡ whole (record { objects = p.os; sets = p.ss; code = p.is }) = p.read ∙ simp (eq-eqb _ _ e, after_code) in
-        let all : whole_of o s k ≡ held_as Outcome.Whole (record { objects = p.os; sets = p.ss; code = p.is }) =
-        (λ i. record {
-          outcome = Outcome.Whole;
-          objects = ho.count i;
-          kinds = ho.kinds i;
-          sizes = ho.sizes i;
-          colors = ho.colors i;
-          sets = hs.count i;
-          ends = hs.ends i;
-          members = hs.members i;
-          lines = hc.lines i;
-          code = hc.code i;
-        }) in
-        all ∙ sym (ap held done)
+pub held_all : (os : List Object) (ss : List (List ℕ)) (is : List Instr) {o : Objects} {s : Sets} {k : Code}
+    → o ≡ objects_held os → s ≡ sets_held ss → k ≡ code_held is
+    → ◌≡◌ {A = Loaded} (record { objects = o; sets = s; code = k }) (held_as (record { objects = os; sets = ss; code = is }))
+held_all os ss is e f g i = record { objects = e i; sets = f i; code = g i }

@@ -27,6 +27,11 @@ abbrev pub then : {A B : Type 0} → Answer A → (A → Cursor → Answer B) �
 then (Ok r) next = next r.0 r.1
 then (Err q) next = Err q
 
+-- `left` things more, after those that are done
+unfoldable pub several : {A : Type 0} → (left : ℕ) → (one : ℕ → Answer A) → (at : ℕ) → (done : List A) → Answer (List A)
+several zero one at done = Ok (done, cursor at)
+several (suc left) one at done = then (one at) λ x next. several left one next.at (done ++ x ∷ [])
+
 -- what was read, as it is held
 abbrev pub hold : {A B : Type 0} → (A → B) → Answer A → Answer B
 hold how (Ok r) = Ok (how r.0, r.1)
@@ -50,17 +55,11 @@ read_object version file at =
     then (color_at version file past_size.at) λ color next.
     Ok (record { kind = kind; size = size; color = color }, next)
 
--- `left` objects more, after those that are done
-unfoldable pub objects_from : (left version : ℕ) → List ℕ → (at : ℕ) → (done : List Object) → Answer (List Object)
-objects_from zero version file at done = Ok (done, cursor at)
-objects_from (suc left) version file at done =
-    then (read_object version file at) λ o next. objects_from left version file next.at (done ++ o ∷ [])
-
 abbrev pub objects_of : (version : ℕ) → List ℕ → Answer (List Object)
 objects_of version file =
     then (judged Cause.Version (within version version) file 0) λ this past_version.
     then (judged Cause.Count (within 0 400) file past_version.at) λ count next.
-    objects_from count version file next.at []
+    several count (read_object version file) next.at []
 
 -- ---- sets: "each is a count, 1 to the count of objects, and that many object numbers, strictly rising"
 
@@ -78,15 +77,10 @@ abbrev pub read_set : (objects : ℕ) → List ℕ → (at : ℕ) → Answer (Li
 read_set objects file at =
     then (judged Cause.Count (within 1 objects) file at) λ count next. members_from count objects file next.at 0 []
 
-unfoldable pub sets_from : (left objects : ℕ) → List ℕ → (at : ℕ) → (done : List (List ℕ)) → Answer (List (List ℕ))
-sets_from zero objects file at done = Ok (done, cursor at)
-sets_from (suc left) objects file at done =
-    then (read_set objects file at) λ set next. sets_from left objects file next.at (done ++ set ∷ [])
-
 abbrev pub sets_of : (version objects : ℕ) → List ℕ → (at : ℕ) → Answer (List (List ℕ))
 sets_of version objects file at =
     elim (has_sets version) [
-      | true ↦ then (judged Cause.Count (within 0 400) file at) λ count next. sets_from count objects file next.at []
+      | true ↦ then (judged Cause.Count (within 0 400) file at) λ count next. several count (read_set objects file) next.at []
       | false ↦ Ok ([], cursor at)
     ]
 
@@ -108,15 +102,10 @@ read_instr scope file at =
     then (judged Cause.Field (has_opcode scope.version) file at) λ op next.
     operands_at scope (operands_of (row_of op)) file next (make op)
 
-unfoldable pub code_from : (left : ℕ) → Scope → List ℕ → (at : ℕ) → (done : List Instr) → Answer (List Instr)
-code_from zero scope file at done = Ok (done, cursor at)
-code_from (suc left) scope file at done =
-    then (read_instr scope file at) λ i next. code_from left scope file next.at (done ++ i ∷ [])
-
 abbrev pub code_of : (version : ℕ) → (kinds : List ℕ) → (sets : ℕ) → List ℕ → (at : ℕ) → Answer (List Instr)
 code_of version kinds sets file at =
     then (judged Cause.Count (within 1 (most_code version)) file at) λ count next.
-    code_from count (record { version = version; kinds = kinds; sets = sets; code = count }) file next.at []
+    several count (read_instr (record { version = version; kinds = kinds; sets = sets; code = count }) file) next.at []
 
 -- ---- the whole file
 

@@ -5,7 +5,7 @@ ghost use Rattle.opcodes.specs.Ranges.{has_opcode, within, kinds_of, scope_over}
 ghost use Rattle.files.specs.Reading.{judged};
 ghost use Rattle.files.specs.Parsing.{color_at, size_at, member_at, operand_at};
 
-use numbers::refusal::{Refusal, Cause};
+use numbers::refusal::{Cause, Refusal};
 use numbers::{Cursor, Read};
 use opcodes::ranges::{is_allowed, is_color, is_within};
 use opcodes::versions::is_present;

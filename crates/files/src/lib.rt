@@ -9,9 +9,8 @@ ghost use Rattle.std.specs.Prelude.{◌≡◌};
 ghost use Rattle.files.specs.Reading.{read_file};
 ghost use Rattle.files.specs.Held.{held};
 
-use numbers::refusal::Refusal;
-
 pub use arrays::{Code, Loaded, Objects, Sets};
+use numbers::refusal::Refusal;
 
 mod arrays; // arrays.rt: a file as it is held
 mod fields; // fields.rt: numbers in their ranges

@@ -3,14 +3,14 @@ ghost use Rattle.std.specs.Prelude.{◌≡◌, [], ◌≤◌, length};
 ghost use Rattle.opcodes.specs.Ranges.{kinds_of, scope_over};
 ghost use Rattle.files.specs.Program.{most_code};
 ghost use Rattle.files.specs.Held.{code_held};
-ghost use Rattle.files.specs.Parsing.{hold, read_instr, code_from, code_of};
+ghost use Rattle.files.specs.Parsing.{hold, several, read_instr, code_of};
 ghost use Rattle.files.specs.Inside.{Small};
 
 use super::Code;
 use super::fields::{opcode_at, operand_at, ranged};
 use instructions::instr_of;
 use numbers::Cursor;
-use numbers::refusal::{Refusal, Cause};
+use numbers::refusal::{Cause, Refusal};
 use opcodes::{Instr, Object, Scope};
 use reader::Reader;
 use table::row_of;
@@ -42,7 +42,7 @@ fn read_code(
     scope: Scope,
 ) -> Result<(Code, Cursor), Refusal>
     requires { Small scope (kinds_of objects.now) }
-    ensures { result ≡ hold code_held (code_from scope.lines (scope_over scope (kinds_of objects.now)) file.now from.at []) }
+    ensures { result ≡ hold code_held (several scope.lines (read_instr (scope_over scope (kinds_of objects.now)) file.now) from.at []) }
 {
     let count = scope.lines;
     let mut list = [Instr::End; 2000];

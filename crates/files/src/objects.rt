@@ -1,12 +1,12 @@
 // The objects of a file. The loop that fills the list owns it: no list is copied once for each element.
 ghost use Rattle.std.specs.Prelude.{◌≡◌, [], ◌≤◌};
 ghost use Rattle.files.specs.Held.{objects_held};
-ghost use Rattle.files.specs.Parsing.{hold, read_object, objects_from, objects_of};
+ghost use Rattle.files.specs.Parsing.{hold, several, read_object, objects_of};
 
 use super::Objects;
 use super::fields::{color_at, ranged, size_at};
 use numbers::Cursor;
-use numbers::refusal::{Refusal, Cause};
+use numbers::refusal::{Cause, Refusal};
 use opcodes::Object;
 
 // An object of which nothing counts.
@@ -39,7 +39,7 @@ fn read_objects(
     count: usize,
 ) -> Result<(Objects, Cursor), Refusal>
     requires { count ≤ 400 }
-    ensures { result ≡ hold objects_held (objects_from count version file.now from.at []) }
+    ensures { result ≡ hold objects_held (several count (read_object version file.now) from.at []) }
 {
     let mut list = [BLANK; 400];
     let mut next = from;

@@ -8,7 +8,7 @@ use super::Loaded;
 use super::lines::code_of;
 use super::objects::objects_of;
 use super::sets::sets_of;
-use numbers::refusal::{Refusal, Cause};
+use numbers::refusal::{Cause, Refusal};
 
 // The longest file of a version.
 fn longest_file(version: u8) -> usize
@@ -30,13 +30,8 @@ pub(crate) fn read_file(file: &[u8], version: u8) -> Result<Loaded, Refusal>
     let (objects, past_objects) = objects_of(file, version)?;
     let count = objects.count;
     let (sets, past_sets) = sets_of(file, past_objects, version, count)?;
-    let (code, next) = code_of(
-        file,
-        past_sets,
-        &objects.list[..count],
-        version,
-        sets.count,
-    )?;
+    let named = &objects.list[..count];
+    let (code, next) = code_of(file, past_sets, named, version, sets.count)?;
     if next.at != file.len() {
         return Err(Refusal {
             cause: Cause::Surplus,

@@ -1,14 +1,14 @@
 // The sets of a file: their members stand in one array, one set after the other.
-ghost use Rattle.std.specs.Prelude.{◌≡◌, [], ◌≤◌, length};
+ghost use Rattle.std.specs.Prelude.{◌≡◌, [], ◌≤◌, ◌<◌, ◌^◌, length};
 ghost use Rattle.files.specs.Program.{longest};
 ghost use Rattle.files.specs.Held.{sets_held};
-ghost use Rattle.files.specs.Parsing.{hold, sets_from, members_from, read_set, sets_of};
+ghost use Rattle.files.specs.Parsing.{hold, several, members_from, read_set, sets_of};
 ghost use Rattle.files.specs.Inside.{SetIs, Roomy};
 
 use super::Sets;
 use super::fields::{member_at, ranged};
 use numbers::Cursor;
-use numbers::refusal::{Refusal, Cause};
+use numbers::refusal::{Cause, Refusal};
 
 // `count` members of a set, strictly rising, into the room from a place on; answered is where they end there. Each
 // takes a byte of the file, so the room never ends before the file.
@@ -20,7 +20,7 @@ fn read_members(
     members: &mut [u16],
     start: usize,
 ) -> Result<(usize, Cursor), Refusal>
-    requires { Roomy file.now from.at objects members.old start }
+    requires { (Roomy file.now from.at objects members.old start) × (count < 2 ^ 32) }
     ensures { SetIs (members_from count objects file.now from.at 0 []) result members.old start members.new }
 {
     let mut next = from;
@@ -57,7 +57,7 @@ fn read_sets(
     count: usize,
 ) -> Result<(Sets, Cursor), Refusal>
     requires { (length file.now ≤ 16384) × (objects ≤ 400) × (count ≤ 400) }
-    ensures { result ≡ hold sets_held (sets_from count objects file.now from.at []) }
+    ensures { result ≡ hold sets_held (several count (read_set objects file.now) from.at []) }
 {
     let mut ends = [0; 400];
     let mut members = [0; 16384];

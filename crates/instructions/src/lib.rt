@@ -62,18 +62,21 @@ pub fn instr_of(op: u32, x: u32, y: u32, z: u32, w: u32) -> Instr
     }
 }
 
-// An opcode with three operands.
-fn four(op: u32, x: u32, y: u32, z: u32) -> Parts
-    ensures { result ≡ record { op = op; x = x; y = y; z = z; w = 0 } }
+// An opcode with three operands, each in the type of its field.
+fn parts<X: Into<u32>, Y: Into<u32>, Z: Into<u32>>(op: u32, x: X, y: Y, z: Z) -> Parts
+    ensures opcode { result.op ≡ op }
+    ensures first { X.converts x result.x }
+    ensures second { Y.converts y result.y }
+    ensures third { Z.converts z result.z }
+    ensures no_fourth { result.w ≡ 0 }
 {
-    Parts { op, x, y, z, w: 0 }
-}
-
-// The same where every operand is a temporary or a color.
-fn small(op: u32, x: u8, y: u8, z: u8) -> Parts
-    ensures { result ≡ record { op = op; x = x; y = y; z = z; w = 0 } }
-{
-    four(op, x as u32, y as u32, z as u32)
+    Parts {
+        op,
+        x: x.into(),
+        y: y.into(),
+        z: z.into(),
+        w: 0,
+    }
 }
 
 // An instruction taken apart.
@@ -81,27 +84,27 @@ pub fn parts_of(i: Instr) -> Parts
     ensures { result ≡ parts_of i }
 {
     match i {
-        Instr::End => four(0, 0, 0, 0),
-        Instr::Set(d, n) => four(1, d as u32, n, 0),
-        Instr::Place(d, g) => four(2, d as u32, g as u32, 0),
-        Instr::Add(d, a, b) => small(3, d, a, b),
-        Instr::Sub(d, a, b) => small(4, d, a, b),
-        Instr::Less(d, a, b) => small(5, d, a, b),
-        Instr::Load8(d, a) => small(6, d, a, 0),
-        Instr::Load32(d, a) => small(7, d, a, 0),
-        Instr::Put8(g, k, a) => four(8, g as u32, k as u32, a as u32),
-        Instr::Put32(g, k, a) => four(9, g as u32, k as u32, a as u32),
-        Instr::Write8(a, b, s) => four(10, a as u32, b as u32, s as u32),
-        Instr::Write32(a, b, s) => four(11, a as u32, b as u32, s as u32),
-        Instr::Jump(p) => four(12, p as u32, 0, 0),
-        Instr::JumpIf(a, p) => four(13, a as u32, p as u32, 0),
-        Instr::Alloc(d, g, a) => four(14, d as u32, g as u32, a as u32),
-        Instr::Free(a) => small(15, a, 0, 0),
-        Instr::In(d) => small(16, d, 0, 0),
-        Instr::Out(a) => small(17, a, 0, 0),
-        Instr::Check8(a, c) => small(18, a, c, 0),
-        Instr::Check32(a, c) => small(19, a, c, 0),
-        Instr::CheckPut8(g, k, c) => four(20, g as u32, k as u32, c as u32),
-        Instr::CheckPut32(g, k, c) => four(21, g as u32, k as u32, c as u32),
+        Instr::End => parts(0, 0u32, 0u32, 0u32),
+        Instr::Set(d, n) => parts(1, d, n, 0u32),
+        Instr::Place(d, g) => parts(2, d, g, 0u32),
+        Instr::Add(d, a, b) => parts(3, d, a, b),
+        Instr::Sub(d, a, b) => parts(4, d, a, b),
+        Instr::Less(d, a, b) => parts(5, d, a, b),
+        Instr::Load8(d, a) => parts(6, d, a, 0u32),
+        Instr::Load32(d, a) => parts(7, d, a, 0u32),
+        Instr::Put8(g, k, a) => parts(8, g, k, a),
+        Instr::Put32(g, k, a) => parts(9, g, k, a),
+        Instr::Write8(a, b, s) => parts(10, a, b, s),
+        Instr::Write32(a, b, s) => parts(11, a, b, s),
+        Instr::Jump(p) => parts(12, p, 0u32, 0u32),
+        Instr::JumpIf(a, p) => parts(13, a, p, 0u32),
+        Instr::Alloc(d, g, a) => parts(14, d, g, a),
+        Instr::Free(a) => parts(15, a, 0u32, 0u32),
+        Instr::In(d) => parts(16, d, 0u32, 0u32),
+        Instr::Out(a) => parts(17, a, 0u32, 0u32),
+        Instr::Check8(a, c) => parts(18, a, c, 0u32),
+        Instr::Check32(a, c) => parts(19, a, c, 0u32),
+        Instr::CheckPut8(g, k, c) => parts(20, g, k, c),
+        Instr::CheckPut32(g, k, c) => parts(21, g, k, c),
     }
 }

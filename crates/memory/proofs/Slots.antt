@@ -1,16 +1,15 @@
 -- What a check tests, slot by slot: four bytes touch at most two slots, those of the first and of the
 -- last byte.
-use Prim.Native.Nat.{ℕ, zero, suc, ◌+◌, ◌≤◌, ◌<◌}
+use Prim.Native.Nat.{ℕ, zero, suc, ◌+◌, ◌-◌, ◌≤◌, ◌<◌}
 use mathlib.Core.Path.{◌≡◌, refl, sym, ap, ◌∙◌}
 use mathlib.Core.Bool.{Bool, true, false}
 use mathlib.Core.List.{List}
 use native.Mathlib.Nat.{not-suc-le-zero, le_of_suc-le-suc}
 use native.Mathlib.Omega.{arith}
-use lib.ListN.{length, get_or, get_or-eq_default}
+use lib.ListN.{get_or}
 use lib.Dec.{eqb}
-use borrow.Author.Tests.{le-leb, lt-leb, lt-ltb, le-ltb, eq-eqb, ne_eqb, eqb-true, eqb-false}
-use Rattle.memory.specs.Memory.{memory_size, slot, color_at, has_color, every_byte, paint}
-use Rattle.memory.specs.Lent.{painted}
+use borrow.Author.Tests.{lt-ltb, le-ltb, eq-eqb, ne_eqb, eqb-true, eqb-false}
+use Rattle.memory.specs.Memory.{memory_size, slot, color_at, has_color, every_byte}
 
 -- a byte that fails decides
 pub every_fails : (n : ℕ) (test : ℕ → Bool) (a k : ℕ) → k < n → test (a + k) ≡ false → every_byte n test a ≡ false
@@ -41,70 +40,47 @@ module _ (t : List ℕ) (color : ℕ) where
   pub inside_slot : (a : ℕ) → a < memory_size → has_color t color a ≡ eqb (color_at t a) color
   inside_slot a h = rw (lt-ltb a memory_size h, has_color) refl
 
-  -- CHECK8
-  pub check_1 : (a : ℕ) → every_byte 1 (has_color t color) a ≡ has_color t color a
-  unfolding every_byte
-  check_1 a = go (has_color t color a) refl
-    where
-      go : (b : Bool) → has_color t color a ≡ b → every_byte 1 (has_color t color) a ≡ has_color t color a
-      go true e = rw (e, every_byte) refl
-      go false e = rw (e, every_byte) refl
-
-  pub check_1_inside : (a found : ℕ) → a < memory_size → found ≡ color_at t a → eqb found color ≡ every_byte 1 (has_color t color) a
-  check_1_inside a found h e = ap (λ x. eqb x color) e ∙ sym (check_1 a ∙ inside_slot a h)
-
-  pub check_1_outside : (a : ℕ) → memory_size ≤ a → false ≡ every_byte 1 (has_color t color) a
-  check_1_outside a h = sym (check_1 a ∙ outside a h)
-
-  -- CHECK32
-  pub check_4_outside : (a : ℕ) → memory_size ≤ a + 3 → false ≡ every_byte 4 (has_color t color) a
-  check_4_outside a h = sym (every_fails 4 (has_color t color) a 3 (omega arith) (outside (a + 3) h))
-
-  pub check_4_first : (a found : ℕ) → a + 3 < memory_size → found ≡ color_at t a → (found ≡ color → ⊥) → false ≡ every_byte 4
-      (has_color t color) a
-  check_4_first a found h e differs =
-      let start : a + 0 ≡ a = omega arith in
-      sym
-      (every_fails 4 (has_color t color) a 0 (omega arith)
-      (ap (has_color t color) start ∙ inside_slot a (omega arith) ∙ ne_eqb (color_at t a) color (λ q. differs (e ∙ q))))
-
   same_slot : (a b : ℕ) → slot a ≡ slot b → color_at t a ≡ color_at t b
   unfolding color_at
   same_slot a b e = ap (λ s. get_or t s 0) e
 
-  -- the slot of a byte between is that of the first or that of the last
-  between : (a k : ℕ) → k < 4 → color_at t a ≡ color → color_at t (a + 3) ≡ color → color_at t (a + k) ≡ color
-  between a k h first last = go (eqb (slot (a + k)) (slot a)) refl
-    where
-      go : (b : Bool) → eqb (slot (a + k)) (slot a) ≡ b → color_at t (a + k) ≡ color
-      go true e = same_slot (a + k) a (eqb-true _ _ e) ∙ first
-      go false e =
-          let differ : (slot (a + k) ≡ slot a → ⊥) = eqb-false _ _ e in
-          same_slot (a + k) (a + 3) (omega arith) ∙ last
+  -- the bytes of a check, from a on up to the last
+  module _ (n a last : ℕ) (some : 1 ≤ n) (few : n ≤ 4) (ends : last ≡ a + n - 1) where
+    pub check_outside : memory_size ≤ last → false ≡ every_byte n (has_color t color) a
+    check_outside h =
+        let at : a + (n - 1) ≡ last = omega arith in
+        sym (every_fails n (has_color t color) a (n - 1) (omega arith) (ap (has_color t color) at ∙ outside last h))
 
-  pub check_4_last : (a found last : ℕ) → a + 3 < memory_size → found ≡ color_at t a → found ≡ color → last ≡ color_at t (a + 3)
-      → eqb last color ≡ every_byte 4 (has_color t color) a
-  check_4_last a found last h e first e3 = go (eqb (color_at t (a + 3)) color) refl
-    where
-      go : (b : Bool) → eqb (color_at t (a + 3)) color ≡ b → eqb last color ≡ every_byte 4 (has_color t color) a
-      go true q =
-          ap (λ x. eqb x color) e3 ∙ q
-          ∙ sym
-          (every_passes 4 (has_color t color) a
-          (λ k l. inside_slot (a + k) (omega arith) ∙ eq-eqb (color_at t (a + k)) color (between a k l (sym e ∙ first) (eqb-true _ _ q))))
-      go false q =
-          ap (λ x. eqb x color) e3 ∙ q ∙ sym (every_fails 4 (has_color t color) a 3 (omega arith) (inside_slot (a + 3) h ∙ q))
+    module _ (inside : last < memory_size) (first : ℕ) (is_first : first ≡ color_at t a) where
+      pub check_first : (first ≡ color → ⊥) → false ≡ every_byte n (has_color t color) a
+      check_first differs =
+          let at : a + 0 ≡ a = omega arith in
+          sym
+          (every_fails n (has_color t color) a 0 (omega arith)
+          (ap (has_color t color) at ∙ inside_slot a (omega arith) ∙ ne_eqb (color_at t a) color (λ q. differs (is_first ∙ q))))
 
--- a lookup past the table's end
-pub past_table : (t : List ℕ) (a : ℕ) → length t ≤ slot a → 0 ≡ color_at t a
-unfolding color_at
-past_table t a h = sym (get_or-eq_default t 0 h)
+      -- the slot of a byte between is that of the first or that of the last
+      between : (k : ℕ) → k < n → color_at t a ≡ color → color_at t last ≡ color → color_at t (a + k) ≡ color
+      between k h e₁ e₂ = go (eqb (slot (a + k)) (slot a)) refl
+        where
+          go : (b : Bool) → eqb (slot (a + k)) (slot a) ≡ b → color_at t (a + k) ≡ color
+          go true e = same_slot (a + k) a (eqb-true _ _ e) ∙ e₁
+          go false e =
+              let differ : (slot (a + k) ≡ slot a → ⊥) = eqb-false _ _ e in
+              same_slot (a + k) last (omega arith) ∙ e₂
 
--- ---- painting any table
+      pub check_last : first ≡ color → (found : ℕ) → found ≡ color_at t last → eqb found color ≡ every_byte n (has_color t color) a
+      check_last e₁ found e = go (eqb (color_at t last) color) refl
+        where
+          at : a + (n - 1) ≡ last
+          at = omega arith
 
-module _ (t : List ℕ) (a n color : ℕ) where
-  pub painted_inside : (after : List ℕ) → slot a + slot n ≤ length t → after ≡ paint t a n color → after ≡ painted t a n color
-  painted_inside after h e = rw (le-leb (slot a + slot n) (length t) h, painted) e
-
-  pub painted_outside : length t < slot a + slot n → t ≡ painted t a n color
-  painted_outside h = rw (lt-leb (slot a + slot n) (length t) h, painted) refl
+          go : (b : Bool) → eqb (color_at t last) color ≡ b → eqb found color ≡ every_byte n (has_color t color) a
+          go true q =
+              ap (λ x. eqb x color) e ∙ q
+              ∙ sym
+              (every_passes n (has_color t color) a
+              (λ k l. inside_slot (a + k) (omega arith) ∙ eq-eqb (color_at t (a + k)) color (between k l (sym is_first ∙ e₁) (eqb-true _ _ q))))
+          go false q =
+              ap (λ x. eqb x color) e ∙ q
+              ∙ sym (every_fails n (has_color t color) a (n - 1) (omega arith) (ap (has_color t color) at ∙ inside_slot last inside ∙ q))

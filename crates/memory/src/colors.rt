@@ -5,40 +5,25 @@ ghost use Rattle.memory.specs.Lent.{painted};
 
 use crate::MEMORY;
 use crate::bytes::fill;
+use crate::widths::Width;
 
 // The color of an address; a table that is too short has 0 there.
+#[tactic(auto, unfolding(crate::specs::Memory::color_at))]
 fn color_at(table: &[u8], address: usize) -> u8
     ensures { result ≡ color_at table.now address }
 {
-    let slot = address >> 3;
-    if slot < table.len() { table[slot] } else { 0 }
+    table.get(address >> 3).copied().unwrap_or(0)
 }
 
-// CHECK8: the byte lies in memory, in a slot of the color.
-pub fn check8(table: &[u8], address: u32, color: u8) -> bool
-    ensures { result ≡ every_byte 1 (has_color table.now color) address }
-{
-    let at = address as usize;
-    if MEMORY <= at {
-        return false;
-    }
-    color_at(table, at) == color
-}
-
-// CHECK32: each of four bytes lies in memory, in a slot of the color. They touch at most two slots,
+// CHECK8 and CHECK32: each byte lies in memory, in a slot of the color. Four bytes touch at most two slots,
 // so the first and the last byte decide. The last address is counted in 64 bits and cannot wrap.
-pub fn check32(table: &[u8], address: u32, color: u8) -> bool
-    ensures { result ≡ every_byte 4 (has_color table.now color) address }
+pub fn check<W: Width>(table: &[u8], address: u32, color: u8) -> bool
+    ensures { result ≡ every_byte W.bytes (has_color table.now color) address }
 {
     let at = address as usize;
-    let last = at + 3;
-    if MEMORY <= last {
-        return false;
-    }
-    if color_at(table, at) != color {
-        return false;
-    }
-    color_at(table, last) == color
+    let last = at + W::bytes() - 1;
+    let inside = last < MEMORY;
+    inside && color_at(table, at) == color && color_at(table, last) == color
 }
 
 // The slots of `count` bytes from an address on are lent on to be filled with a color.

@@ -8,8 +8,5 @@ use crate::{MEMORY, TABLE};
 pub fn are_exact(memory: &[u8], table: &[u8]) -> bool
     ensures { result ≡ exact memory.now table.now }
 {
-    if memory.len() != MEMORY {
-        return false;
-    }
-    table.len() == TABLE
+    memory.len() == MEMORY && table.len() == TABLE
 }

@@ -7,15 +7,9 @@
 pub mod bytes;
 pub mod colors;
 pub mod lengths;
+pub mod widths;
 
 // The length of memory and of the table.
 const MEMORY: usize = 57344;
 
 const TABLE: usize = 7168;
-
-// What a load answers.
-#[derive(Clone, Copy)]
-pub enum Load {
-    Value(u32),
-    Outside,
-}

@@ -5,5 +5,5 @@ ghost use Rattle.opcodes.specs.View.{extent};
 pub fn extent_of(size: u32) -> usize
     ensures { result ≡ extent size }
 {
-    (size as usize + 7) / 8 * 8
+    (size as usize).next_multiple_of(8)
 }

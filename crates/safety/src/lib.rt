@@ -10,7 +10,8 @@ ghost use Rattle.opcodes.specs.View.{view};
 ghost use Rattle.safety.specs.Nature.{put_nature, nature_of, sizes_in};
 
 use instructions::parts_of;
-use opcodes::Instr;
+use opcodes::extent::extent_of;
+use opcodes::{Instr, Parts};
 
 // What an instruction is: a store, and of which kind, or something else.
 #[derive(Clone, Copy)]
@@ -32,8 +33,7 @@ pub enum Nature {
 fn put(g: u32, k: u32, bytes: u32, size: u16) -> Nature
     ensures { result ≡ put_nature size g k bytes }
 {
-    let extent = (size as u64 + 7) / 8 * 8;
-    if k as u64 + bytes as u64 <= extent {
+    if k as usize + bytes as usize <= extent_of(size as u32) {
         Nature::Safe
     } else {
         Nature::Own(g as usize)
@@ -57,12 +57,11 @@ pub fn by_opcode(opcode: u32, x: u32, y: u32, z: u32, w: u32, size: u16) -> Natu
 }
 
 // What an instruction is, over the sizes of the objects.
-#[tactic(auto, using(crate::proofs::Natures::nature_whole, crate::proofs::Natures::sizes_inside, crate::proofs::Natures::sizes_past))]
+#[tactic(auto, using(crate::proofs::Natures::nature_whole))]
 pub fn nature_of(i: Instr, sizes: &[u16; 400]) -> Nature
     ensures { result ≡ nature_of (sizes_in sizes.now) (view i) }
 {
-    let parts = parts_of(i);
-    let g = parts.x as usize;
-    let size = if g < 400 { sizes[g] } else { 0 };
-    by_opcode(parts.op, parts.x, parts.y, parts.z, parts.w, size)
+    let Parts { op, x, y, z, w } = parts_of(i);
+    let size = sizes.get(x as usize).copied().unwrap_or(0);
+    by_opcode(op, x, y, z, w, size)
 }

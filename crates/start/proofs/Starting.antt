@@ -5,21 +5,20 @@
 -- the layout, and with the layout's end at or below 28,672 every global's slots lie in the table, so
 -- that painting what the table has is painting. `all_same` goes through the objects.
 use Prim.Native.Nat.{ℕ, zero, suc, ◌+◌, ◌-◌, ◌<◌, ◌≤◌}
-use mathlib.Core.Path.{◌≡◌, refl, sym, ◌∙◌, ap, subst}
+use mathlib.Core.Path.{◌≡◌, refl, sym, ◌∙◌, ap}
 use mathlib.Core.Bool.{Bool, true, false}
 use mathlib.Core.List.{List, [], ◌∷◌, map}
 use native.Mathlib.Omega.{arith}
 use lib.ListN.{length, get_or, drop, replicate, length-map, length-replicate, get_or-map}
-use lib.Dec.{eqb, leb}
-use borrow.Author.Tests.{eq-eqb, ne_eqb, eqb-true, leb-true, leb-false, le-leb, lt-leb}
+use lib.Dec.{eqb}
+use borrow.Author.Tests.{eqb-true, leb-true}
 use Rattle.opcodes.specs.declared.Object.{Object}
 use Rattle.opcodes.specs.View.{extent}
 use Rattle.files.specs.Held.{filled}
 use Rattle.files.specs.Program.{Program}
 use Rattle.files.proofs.Filled.{get_d_filled_map}
-use Rattle.layout.specs.declared.Layout.{Layout}
 use Rattle.layout.specs.Layout.{Piece, piece_of, pieces_of, start_of, end_of, fits}
-use Rattle.layout.specs.Arrays.{counted, pieces_in, layout_of}
+use Rattle.layout.specs.Arrays.{layout_of}
 use Rattle.layout.proofs.Places.{ends_below}
 use Rattle.layout.proofs.Pieces.{start_held, pieces_held}
 use Rattle.memory.specs.Memory.{memory_size, table_size, slot, paint}
@@ -33,65 +32,18 @@ use Rattle.start.specs.First.{blank_memory, first_memory, paint_globals, blank_t
 use Rattle.start.specs.Held.{paint_one, paint_held, laid_table, laid_start}
 use Rattle.start.specs.declared.Laid.{Laid}
 
--- ---- as many as there are, and at most 400
-
-pub counted_most : (n : ℕ) → counted n ≤ 400
-counted_most n = go (leb n 400) refl
-  where
-    go : (b : Bool) → leb n 400 ≡ b → elim b [ true ↦ n | false ↦ 400 ] ≤ 400
-    go true e = leb-true _ _ e
-    go false e = omega arith
-
-pub counted_there : (n : ℕ) → counted n ≤ n
-counted_there n = go (leb n 400) refl
-  where
-    go : (b : Bool) → leb n 400 ≡ b → elim b [ true ↦ n | false ↦ 400 ] ≤ n
-    go true e = omega arith
-    go false e = omega (arith, leb-false n 400 e)
-
-pub counted_below : (n g : ℕ) → g < 400 → g < n → g < counted n
-counted_below n g h k = go (leb n 400)
-  where
-    go : (b : Bool) → g < elim b [ true ↦ n | false ↦ 400 ]
-    go true = k
-    go false = h
-
-counted_all : (n : ℕ) → n ≤ 400 → counted n ≡ n
-counted_all n h = rw (le-leb n 400 h, counted) refl
-
--- ---- one object, and one more
-
-module _ (table : List ℕ) (kind start size color : ℕ) where
-  pub paints : {after : List ℕ} {x : ℕ} → kind ≡ 0 → x ≡ extent size → after ≡ painted table start x color → after ≡ paint_one table kind start size color
-  paints global read e = e ∙ ap (λ n. painted table start n color) read ∙ rw (eq-eqb kind 0 global, paint_one) refl
-
-  pub paints_not : (kind ≡ 0 → ⊥) → table ≡ paint_one table kind start size color
-  paints_not site = rw (ne_eqb kind 0 site, paint_one) refl
+-- ---- what a loop that stands at g still paints: the one at g and those after it, or nothing
 
 module _ (starts kinds sizes colors : List ℕ) where
-  pub paint_next : (g objects : ℕ) (table after : List ℕ) {all : List ℕ} → g < objects
-      → paint_held starts kinds sizes colors g (objects - g) table ≡ all
-      → after ≡ paint_one table (get_or kinds g 0) (get_or starts g 0) (get_or sizes g 0) (get_or colors g 0)
-      → paint_held starts kinds sizes colors (g + 1) (objects - (g + 1)) after ≡ all
+  pub paint_first : (g objects : ℕ) (table : List ℕ) → g < objects → paint_held starts kinds sizes colors g (objects - g) table
+      ≡ paint_held starts kinds sizes colors (g + 1) (objects - (g + 1))
+      (paint_one table (get_or kinds g 0) (get_or starts g 0) (get_or sizes g 0) (get_or colors g 0))
   unfolding paint_held
-  paint_next g objects table after h e f =
-      let left : objects - g ≡ suc (objects - (g + 1)) = omega arith in
-      ap (paint_held starts kinds sizes colors (g + 1) (objects - (g + 1))) f
-      ∙ sym (ap (λ n. paint_held starts kinds sizes colors g n table) left) ∙ e
+  paint_first g objects table h = let one : objects - g ≡ suc (objects - (g + 1)) = omega arith in rw one
 
-  pub paint_done : (g objects : ℕ) (table : List ℕ) {all : List ℕ} → objects ≤ g
-      → paint_held starts kinds sizes colors g (objects - g) table ≡ all → table ≡ all
+  pub paint_none : (g objects : ℕ) (table : List ℕ) → objects ≤ g → paint_held starts kinds sizes colors g (objects - g) table ≡ table
   unfolding paint_held
-  paint_done g objects table h e =
-      let none : objects - g ≡ 0 = omega arith in
-      sym (ap (λ n. paint_held starts kinds sizes colors g n table) none) ∙ e
-
-  -- the header's and the end slot's come last
-  pub lays : (objects : ℕ) (t₀ : List ℕ) {t₁ t₂ t₃ t₄ : List ℕ} → t₁ ≡ replicate (length t₀) 0 → t₂ ≡ paint_held starts kinds sizes colors 0 (counted objects) t₁
-      → t₃ ≡ painted t₂ heap_start 8 1 → t₄ ≡ painted t₃ end_slot 8 1 → t₄ ≡ laid_table starts kinds sizes colors objects t₀
-  unfolding laid_table
-  lays objects t₀ e₁ e₂ e₃ e₄ =
-      e₄ ∙ ap (λ t. painted t end_slot 8 1) (e₃ ∙ ap (λ t. painted t heap_start 8 1) (e₂ ∙ ap (paint_held starts kinds sizes colors 0 (counted objects)) e₁))
+  paint_none g objects table h = let none : objects - g ≡ 0 = omega arith in rw none
 
 -- ---- what the arrays hold
 
@@ -223,7 +175,7 @@ module _ (p : Program) (memory table : List ℕ) (most : length p.objects ≤ 40
       let all = all_same p.objects most fit p.objects 0 refl (replicate (length table) 0) blank in
       let globals : List ℕ = paint_globals (pieces_of p.objects) 0 p.objects (replicate (length table) 0) in
       let header : length (paint globals heap_start 8 1) ≡ table_size = length-paint globals heap_start 8 1 (omega (arith, all.1)) ∙ all.1 in
-      ap (λ n. painted (painted (paint_held starts_of kinds_of_lem sizes_of colors_of 0 n (replicate (length table) 0)) heap_start 8 1) end_slot 8 1) (counted_all (length p.objects) most)
+      ap (λ n. painted (painted (paint_held starts_of kinds_of_lem sizes_of colors_of 0 n (replicate (length table) 0)) heap_start 8 1) end_slot 8 1) (omega arith)
       ∙ ap (λ t. painted (painted t heap_start 8 1) end_slot 8 1) all.0
       ∙ ap (λ t. painted t end_slot 8 1) (painted_exact globals heap_start 8 1 (omega (arith, all.1)))
       ∙ painted_exact (paint globals heap_start 8 1) end_slot 8 1 (omega (arith, header))
@@ -257,40 +209,3 @@ module _ (p : Program) (memory table : List ℕ) (most : length p.objects ≤ 40
       go : (b : Bool) → fits (pieces_of p.objects) ≡ b → laid (pieces_of p.objects) b ≡ first_for b
       go true e = λ i. record { answer = record { fits = true; starts = starts_of }; memory = first_memory_lem i; table = laid_first (leb-true _ _ e) i }
       go false e = refl
-
--- ---- the code's two ends
-
-module _ (kinds sizes colors : List ℕ) (objects : ℕ) (memory table : List ℕ) {lay : Layout}
-    (known : lay ≡ layout_of (pieces_in kinds sizes colors objects)) where
-  abbrev start : After Laid
-  start = laid_start kinds sizes colors objects memory table
-
-  same : layout_of (pieces_in kinds sizes colors objects) ≡ lay
-  same = sym known
-
-  too_long_lem : 28672 < lay.end → start ≡ record { answer = record { fits = false; starts = lay.starts }; memory = memory; table = table }
-  unfolding laid_start
-  too_long_lem over =
-      let past : 28672 < end_of (pieces_in kinds sizes colors objects) = subst (λ (n : ℕ). 28672 < n) (ap (λ x. x.end) known) over in
-      rw (lt-leb (end_of (pieces_in kinds sizes colors objects)) 28672 past, laid_start)
-      (λ i. record { answer = record { fits = false; starts = (same i).starts }; memory = memory; table = table })
-
-  laid_out_lem : lay.end ≤ 28672
-      → start ≡ record { answer = record { fits = true; starts = lay.starts }; memory = started memory; table = laid_table lay.starts kinds sizes colors objects table }
-  unfolding laid_start
-  laid_out_lem fit =
-      let within : end_of (pieces_in kinds sizes colors objects) ≤ 28672 = subst (λ (n : ℕ). n ≤ 28672) (ap (λ x. x.end) known) fit in
-      rw (le-leb (end_of (pieces_in kinds sizes colors objects)) 28672 within, laid_start)
-      (λ i. record { answer = record { fits = true; starts = (same i).starts }; memory = started memory; table = laid_table (same i).starts kinds sizes colors objects table })
-
-  -- nothing is changed where they are too long
-  pub refuses_long : {x : Laid} → 28672 < lay.end → x ≡ record { fits = false; starts = lay.starts }
-      → (x ≡ start.answer) × ((memory ≡ start.memory) × (table ≡ start.table))
-  refuses_long over e =
-      (e ∙ sym (ap (λ x. x.answer) (too_long_lem over)), (sym (ap (λ x. x.memory) (too_long_lem over)), sym (ap (λ x. x.table) (too_long_lem over))))
-
-  pub lays_out : {x : Laid} {m t : List ℕ} → lay.end ≤ 28672 → x ≡ record { fits = true; starts = lay.starts } → m ≡ started memory
-      → t ≡ laid_table lay.starts kinds sizes colors objects table
-      → (x ≡ start.answer) × ((m ≡ start.memory) × (t ≡ start.table))
-  lays_out fit e f g =
-      (e ∙ sym (ap (λ x. x.answer) (laid_out_lem fit)), (f ∙ sym (ap (λ x. x.memory) (laid_out_lem fit)), g ∙ sym (ap (λ x. x.table) (laid_out_lem fit))))

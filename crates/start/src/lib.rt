@@ -4,6 +4,7 @@
 ghost use Rattle.std.specs.Prelude.{◌≡◌};
 ghost use Rattle.start.specs.Held.{paint_one, laid_table, laid_start};
 
+use layout::Layout;
 use opcodes::extent::extent_of;
 
 // What laying out answers: whether the globals end at or below 28,672, and where each object starts; 0 for
@@ -24,21 +25,20 @@ fn paint_one(table: &mut [u8], kind: u8, start: u32, size: u16, color: u8)
 }
 
 // The table at the start: all 0, the globals' slots, the first header, the end slot.
+#[tactic(auto, using(crate::proofs::Starting::paint_first, crate::proofs::Starting::paint_none), unfolding(crate::specs::Held::laid_table))]
 fn lay_table(
     table: &mut [u8],
-    starts: [u32; 400],
-    kinds: [u8; 400],
-    sizes: [u16; 400],
-    colors: [u8; 400],
+    starts: &[u32; 400],
+    kinds: &[u8; 400],
+    sizes: &[u16; 400],
+    colors: &[u8; 400],
     objects: usize,
 )
-    ensures { table.new ≡ laid_table starts kinds sizes colors objects table.old }
+    ensures { table.new ≡ laid_table starts.now kinds.now sizes.now colors.now objects table.old }
 {
     memory::bytes::fill(table, 0);
-    let mut g = 0;
-    while g < 400 && g < objects {
+    for g in 0..objects.min(400) {
         paint_one(table, kinds[g], starts[g], sizes[g], colors[g]);
-        g += 1;
     }
     memory::colors::paint(table, 28672, 8, 1);
     memory::colors::paint(table, 57336, 8, 1);
@@ -46,6 +46,7 @@ fn lay_table(
 
 // Clears memory and table and lays them out for the objects of a file: the first so many of the arrays, at
 // most 400. Globals that end above 28,672 change nothing.
+#[tactic(auto, unfolding(crate::specs::Held::laid_start))]
 pub fn lay(
     kinds: [u8; 400],
     sizes: [u16; 400],
@@ -58,15 +59,11 @@ pub fn lay(
     ensures memory_after { memory.new ≡ (laid_start kinds sizes colors objects memory.old table.old).memory }
     ensures table_after { table.new ≡ (laid_start kinds sizes colors objects memory.old table.old).table }
 {
-    let layout = layout::lay_out(&kinds, &sizes, &colors, objects);
-    let starts = layout.starts;
-    if 28672 < layout.end {
-        return Laid {
-            fits: false,
-            starts,
-        };
+    let Layout { starts, end } = layout::lay_out(&kinds, &sizes, &colors, objects);
+    let fits = end <= 28672;
+    if fits {
+        heap::headers::start(memory);
+        lay_table(table, &starts, &kinds, &sizes, &colors, objects);
     }
-    heap::headers::start(memory);
-    lay_table(table, starts, kinds, sizes, colors, objects);
-    Laid { fits: true, starts }
+    Laid { fits, starts }
 }

@@ -7,164 +7,136 @@ ghost use Rattle.std.specs.Prelude.{◌≡◌};
 ghost use Rattle.opcodes.specs.Table.{row_of};
 ghost use Rattle.opcodes.specs.Ranges.{has_opcode};
 
+use opcodes::Operand::{Color, Global, Number, Offset, Set, Site, Target, Temporary};
 use opcodes::versions::has_group;
 use opcodes::{Group, Operand, Row};
 
+// The row of a plain opcode without operands.
+const NO_OPERANDS: Row = Row {
+    group: Group::Plain,
+    first: Operand::None,
+    second: Operand::None,
+    third: Operand::None,
+    fourth: Operand::None,
+};
+
 // The opcodes 0 to 21, in their order.
 const ROWS: [Row; 22] = [
+    NO_OPERANDS,
     Row {
-        group: Group::Plain,
-        first: Operand::None,
-        second: Operand::None,
-        third: Operand::None,
-        fourth: Operand::None,
+        first: Temporary,
+        second: Number,
+        ..NO_OPERANDS
     },
     Row {
-        group: Group::Plain,
-        first: Operand::Temporary,
-        second: Operand::Number,
-        third: Operand::None,
-        fourth: Operand::None,
+        first: Temporary,
+        second: Global,
+        ..NO_OPERANDS
     },
     Row {
-        group: Group::Plain,
-        first: Operand::Temporary,
-        second: Operand::Global,
-        third: Operand::None,
-        fourth: Operand::None,
+        first: Temporary,
+        second: Temporary,
+        third: Temporary,
+        ..NO_OPERANDS
     },
     Row {
-        group: Group::Plain,
-        first: Operand::Temporary,
-        second: Operand::Temporary,
-        third: Operand::Temporary,
-        fourth: Operand::None,
+        first: Temporary,
+        second: Temporary,
+        third: Temporary,
+        ..NO_OPERANDS
     },
     Row {
-        group: Group::Plain,
-        first: Operand::Temporary,
-        second: Operand::Temporary,
-        third: Operand::Temporary,
-        fourth: Operand::None,
+        first: Temporary,
+        second: Temporary,
+        third: Temporary,
+        ..NO_OPERANDS
     },
     Row {
-        group: Group::Plain,
-        first: Operand::Temporary,
-        second: Operand::Temporary,
-        third: Operand::Temporary,
-        fourth: Operand::None,
+        first: Temporary,
+        second: Temporary,
+        ..NO_OPERANDS
     },
     Row {
-        group: Group::Plain,
-        first: Operand::Temporary,
-        second: Operand::Temporary,
-        third: Operand::None,
-        fourth: Operand::None,
+        first: Temporary,
+        second: Temporary,
+        ..NO_OPERANDS
     },
     Row {
-        group: Group::Plain,
-        first: Operand::Temporary,
-        second: Operand::Temporary,
-        third: Operand::None,
-        fourth: Operand::None,
+        first: Global,
+        second: Offset,
+        third: Temporary,
+        ..NO_OPERANDS
     },
     Row {
-        group: Group::Plain,
-        first: Operand::Global,
-        second: Operand::Offset,
-        third: Operand::Temporary,
-        fourth: Operand::None,
+        first: Global,
+        second: Offset,
+        third: Temporary,
+        ..NO_OPERANDS
     },
     Row {
-        group: Group::Plain,
-        first: Operand::Global,
-        second: Operand::Offset,
-        third: Operand::Temporary,
-        fourth: Operand::None,
+        first: Temporary,
+        second: Temporary,
+        third: Set,
+        ..NO_OPERANDS
     },
     Row {
-        group: Group::Plain,
-        first: Operand::Temporary,
-        second: Operand::Temporary,
-        third: Operand::Set,
-        fourth: Operand::None,
+        first: Temporary,
+        second: Temporary,
+        third: Set,
+        ..NO_OPERANDS
     },
     Row {
-        group: Group::Plain,
-        first: Operand::Temporary,
-        second: Operand::Temporary,
-        third: Operand::Set,
-        fourth: Operand::None,
+        first: Target,
+        ..NO_OPERANDS
     },
     Row {
-        group: Group::Plain,
-        first: Operand::Target,
-        second: Operand::None,
-        third: Operand::None,
-        fourth: Operand::None,
+        first: Temporary,
+        second: Target,
+        ..NO_OPERANDS
     },
     Row {
-        group: Group::Plain,
-        first: Operand::Temporary,
-        second: Operand::Target,
-        third: Operand::None,
-        fourth: Operand::None,
+        first: Temporary,
+        second: Site,
+        third: Temporary,
+        ..NO_OPERANDS
     },
     Row {
-        group: Group::Plain,
-        first: Operand::Temporary,
-        second: Operand::Site,
-        third: Operand::Temporary,
-        fourth: Operand::None,
+        first: Temporary,
+        ..NO_OPERANDS
     },
     Row {
-        group: Group::Plain,
-        first: Operand::Temporary,
-        second: Operand::None,
-        third: Operand::None,
-        fourth: Operand::None,
+        first: Temporary,
+        ..NO_OPERANDS
     },
     Row {
-        group: Group::Plain,
-        first: Operand::Temporary,
-        second: Operand::None,
-        third: Operand::None,
-        fourth: Operand::None,
-    },
-    Row {
-        group: Group::Plain,
-        first: Operand::Temporary,
-        second: Operand::None,
-        third: Operand::None,
-        fourth: Operand::None,
+        first: Temporary,
+        ..NO_OPERANDS
     },
     Row {
         group: Group::Check,
-        first: Operand::Temporary,
-        second: Operand::Color,
-        third: Operand::None,
-        fourth: Operand::None,
+        first: Temporary,
+        second: Color,
+        ..NO_OPERANDS
     },
     Row {
         group: Group::Check,
-        first: Operand::Temporary,
-        second: Operand::Color,
-        third: Operand::None,
-        fourth: Operand::None,
+        first: Temporary,
+        second: Color,
+        ..NO_OPERANDS
     },
     Row {
         group: Group::Check,
-        first: Operand::Global,
-        second: Operand::Offset,
-        third: Operand::Color,
-        fourth: Operand::None,
+        first: Global,
+        second: Offset,
+        third: Color,
+        ..NO_OPERANDS
     },
     Row {
         group: Group::Check,
-        first: Operand::Global,
-        second: Operand::Offset,
-        third: Operand::Color,
-        fourth: Operand::None,
+        first: Global,
+        second: Offset,
+        third: Color,
+        ..NO_OPERANDS
     },
 ];
 
@@ -172,24 +144,12 @@ const ROWS: [Row; 22] = [
 pub fn row_of(op: u32) -> Row
     ensures { result ≡ row_of op }
 {
-    let at = op as usize;
-    if 22 <= at {
-        return Row {
-            group: Group::Plain,
-            first: Operand::None,
-            second: Operand::None,
-            third: Operand::None,
-            fourth: Operand::None,
-        };
-    }
-    ROWS[at]
+    ROWS.get(op as usize).copied().unwrap_or(NO_OPERANDS)
 }
 
 // Whether a number is an opcode of a version.
 pub fn has_opcode(version: u8, op: u32) -> bool
     ensures { result ≡ has_opcode version op }
 {
-    let row = row_of(op);
-    let group = row.group;
-    op < 22 && has_group(version, group)
+    op < 22 && has_group(version, row_of(op).group)
 }

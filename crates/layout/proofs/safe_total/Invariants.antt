@@ -1,5 +1,5 @@
--- `layout::safe_total` meets its contract. The invariant: the sum is the total of the objects passed.
-use Prim.Native.Nat.{◌*◌, ◌-◌, ◌≤◌}
+-- The sum is the total of the objects passed.
+use Prim.Native.Nat.{◌*◌, ◌≤◌}
 use mathlib.Core.Path.{◌≡◌}
 use Rattle.files.specs.Held.{tabulate}
 use Rattle.layout.specs.Layout.{safe_space, total}
@@ -7,8 +7,4 @@ use Rattle.layout.specs.Arrays.{piece_at}
 use Rattle.layout.proofs.safe_total.Given as goal
 
 abbrev pub invariant-loop-g : goal.invariant-loop-g
-invariant-loop-g l = (l.g ≤ l.objects) × (l.sum ≤ 65536 * l.g) ×
-    (l.sum ≡ total (safe_space 0) (tabulate (piece_at l.kinds l.sizes l.colors) 0 l.g))
-
-abbrev pub decreases-loop-g : goal.decreases-loop-g
-decreases-loop-g l = l.objects - l.g
+invariant-loop-g l = (l.sum ≤ 65544 * l.g) × (l.sum ≡ total (safe_space 0) (tabulate (piece_at l.kinds l.sizes l.colors) 0 l.g))

@@ -1,51 +1,73 @@
-use mathlib.Core.Path.{sym, ap, ◌∙◌}
+use mathlib.Core.Path.{◌≡◌, sym, ap, ◌∙◌}
 use Prim.Native.Nat.{◌≤◌}
 use native.Mathlib.Omega.{arith}
+use borrow.Author.Rules.{rules}
 use lib.ListN.{length}
-use Rattle.numbers.specs.declared.refusal.Refusal.{Refusal}
+use Rattle.std.specs.Prelude.{Ok, Err}
+use Rattle.files.specs.declared.arrays.Sets.{Sets}
+use Rattle.files.specs.declared.arrays.Loaded.{Loaded}
 use Rattle.files.specs.Program.{longest}
-use Rattle.files.specs.Reading.{Reading}
-use Rattle.files.specs.Held.{held}
-use Rattle.files.specs.Inside.{why_ended}
-use Rattle.files.proofs.Stages.{too_long_lem, no_objects, past_objects, no_sets_lem, past_sets, no_code, past_code, bytes_behind, all_read}
+use Rattle.files.specs.Held.{held, objects_held, sets_held, code_held}
+use Rattle.files.proofs.Answered.{was_read, was_refused}
+use Rattle.files.proofs.Stages.{few_objects, few_sets, too_long_lem, no_objects, no_sets, no_code, bytes_behind, all_read, held_count, held_list, sets_behind, code_behind, held_all}
 use Rattle.files.proofs.reading.read_file.Goals as goal
 
 pub returns-then-longest_file-file : goal.returns-then-longest_file-file
-returns-then-longest_file-file c = c.refused_file.ensures ∙ sym (ap held (too_long_lem _ _ (omega (arith, c.if-longest_file-file.true, c.longest_file.ensures))))
+returns-then-longest_file-file c = sym (ap held (too_long_lem _ _ (omega (arith, c.if-longest_file-file.true, c.longest_file.ensures))))
 
-pub returns-in_default : goal.returns-in_default
-returns-in_default c =
+pub returns-in_err-objects : goal.returns-in_err-objects
+returns-in_err-objects c =
     let short : length c.args.file.now ≤ longest c.args.version = omega (arith, c.if-longest_file-file.false, c.longest_file.ensures) in
-    let e = c.in_default.is in
-    c.refused_file-in_default.ensures ∙ ap (λ (q : Refusal). held (Reading.refused q)) (c.why_ended.ensures ∙ ap why_ended e) ∙ sym (ap held (no_objects _ _ c.objects_of-objects.result short c.objects_of-objects.ensures e))
+    let handed : c.from_residual.result ≡ Err c.in_err-objects.field-0.0 = search rules in
+    let none = was_refused objects_held _ c.objects_of.ensures c.in_err-objects.was in
+    handed ∙ sym (ap held (no_objects _ _ short none))
 
-pub returns-in_default-sets_ended : goal.returns-in_default-sets_ended
-returns-in_default-sets_ended c =
-    let short : length c.args.file.now ≤ longest c.args.version = omega (arith, c.if-longest_file-file.false, c.longest_file.ensures) in
-    let past1 = past_objects _ _ c.objects_of-objects.result short c.objects_of-objects.ensures c.in-Next.is in
-    let e = c.in_default-sets_ended.is in
-    c.refused_file-in_default-sets_ended.ensures ∙ ap (λ (q : Refusal). held (Reading.refused q)) (c.why_ended-in_default-sets_ended.ensures ∙ ap why_ended e) ∙ sym (ap held (no_sets_lem _ _ c.objects_of-objects.result c.sets_of-sets.result past1 c.sets_of-sets.ensures e))
+pub sets_of-requires : goal.sets_of-requires
+sets_of-requires c =
+    let o = was_read objects_held _ c.objects_of.ensures c.in_ok-objects.was in
+    (omega (arith, c.if-longest_file-file.false, c.longest_file.ensures), omega (arith, held_count o.thing o.held_as, few_objects _ _ o.read))
 
-pub returns-in_default-code_ended : goal.returns-in_default-code_ended
-returns-in_default-code_ended c =
+pub returns-in_err-sets : goal.returns-in_err-sets
+returns-in_err-sets c =
     let short : length c.args.file.now ≤ longest c.args.version = omega (arith, c.if-longest_file-file.false, c.longest_file.ensures) in
-    let past1 = past_objects _ _ c.objects_of-objects.result short c.objects_of-objects.ensures c.in-Next.is in
-    let past2 = past_sets _ _ c.objects_of-objects.result c.sets_of-sets.result past1 c.sets_of-sets.ensures c.in-Next-sets_ended.is in
-    let e = c.in_default-code_ended.is in
-    c.refused_file-in_default-code_ended.ensures ∙ ap (λ (q : Refusal). held (Reading.refused q)) (c.why_ended-in_default-code_ended.ensures ∙ ap why_ended e) ∙ sym (ap held (no_code _ _ c.objects_of-objects.result c.sets_of-sets.result c.code_of-code.result past2 c.code_of-code.ensures e))
+    let handed : c.from_residual-in_err-sets.result ≡ Err c.in_err-sets.field-0.0 = search rules in
+    let o = was_read objects_held _ c.objects_of.ensures c.in_ok-objects.was in
+    let none = was_refused sets_held _ (sets_behind o.thing o.held_as _ _ _ c.sets_of.ensures) c.in_err-sets.was in
+    handed ∙ sym (ap held (no_sets _ _ short o.read none))
+
+pub shared_ref_as_front-named : goal.shared_ref_as_front-named
+shared_ref_as_front-named c =
+    let o = was_read objects_held _ c.objects_of.ensures c.in_ok-objects.was in
+    omega (arith, held_count o.thing o.held_as, few_objects _ _ o.read)
+
+pub code_of-requires : goal.code_of-requires
+code_of-requires c =
+    let o = was_read objects_held _ c.objects_of.ensures c.in_ok-objects.was in
+    let s = was_read sets_held _ (sets_behind o.thing o.held_as _ _ _ c.sets_of.ensures) c.in_ok-sets.was in
+    (omega (arith, ap length (held_list o.thing o.held_as), few_objects _ _ o.read), omega (arith, ap (λ (x : Sets). x.count) s.held_as, few_sets _ _ _ _ s.read))
+
+pub returns-in_err-code : goal.returns-in_err-code
+returns-in_err-code c =
+    let short : length c.args.file.now ≤ longest c.args.version = omega (arith, c.if-longest_file-file.false, c.longest_file.ensures) in
+    let handed : c.from_residual-in_err-code.result ≡ Err c.in_err-code.field-0.0 = search rules in
+    let o = was_read objects_held _ c.objects_of.ensures c.in_ok-objects.was in
+    let s = was_read sets_held _ (sets_behind o.thing o.held_as _ _ _ c.sets_of.ensures) c.in_ok-sets.was in
+    let none = was_refused code_held _ (code_behind o.thing o.held_as _ _ _ s.thing s.held_as c.code_of.ensures) c.in_err-code.was in
+    handed ∙ sym (ap held (no_code _ _ short o.read s.read none))
 
 pub returns-then-next-file : goal.returns-then-next-file
 returns-then-next-file c =
     let short : length c.args.file.now ≤ longest c.args.version = omega (arith, c.if-longest_file-file.false, c.longest_file.ensures) in
-    let past1 = past_objects _ _ c.objects_of-objects.result short c.objects_of-objects.ensures c.in-Next.is in
-    let past2 = past_sets _ _ c.objects_of-objects.result c.sets_of-sets.result past1 c.sets_of-sets.ensures c.in-Next-sets_ended.is in
-    let past3 = past_code _ _ c.objects_of-objects.result c.sets_of-sets.result c.code_of-code.result past2 c.code_of-code.ensures c.in-Next-code_ended.is in
-    c.refused_file-then-next-file.ensures ∙ sym (ap held (bytes_behind _ _ past3 c.if-next-file.true))
+    let o = was_read objects_held _ c.objects_of.ensures c.in_ok-objects.was in
+    let s = was_read sets_held _ (sets_behind o.thing o.held_as _ _ _ c.sets_of.ensures) c.in_ok-sets.was in
+    let k = was_read code_held _ (code_behind o.thing o.held_as _ _ _ s.thing s.held_as c.code_of.ensures) c.in_ok-code.was in
+    sym (ap held (bytes_behind _ _ short o.read s.read k.read c.if-next-file.true))
 
 pub returns : goal.returns
 returns c =
     let short : length c.args.file.now ≤ longest c.args.version = omega (arith, c.if-longest_file-file.false, c.longest_file.ensures) in
-    let past1 = past_objects _ _ c.objects_of-objects.result short c.objects_of-objects.ensures c.in-Next.is in
-    let past2 = past_sets _ _ c.objects_of-objects.result c.sets_of-sets.result past1 c.sets_of-sets.ensures c.in-Next-sets_ended.is in
-    let past3 = past_code _ _ c.objects_of-objects.result c.sets_of-sets.result c.code_of-code.result past2 c.code_of-code.ensures c.in-Next-code_ended.is in
-    c.whole_file.ensures ∙ all_read _ _ past3 c.if-next-file.false
+    let o = was_read objects_held _ c.objects_of.ensures c.in_ok-objects.was in
+    let s = was_read sets_held _ (sets_behind o.thing o.held_as _ _ _ c.sets_of.ensures) c.in_ok-sets.was in
+    let k = was_read code_held _ (code_behind o.thing o.held_as _ _ _ s.thing s.held_as c.code_of.ensures) c.in_ok-code.was in
+    ap (λ (x : Loaded). Ok x) (held_all o.thing s.thing k.thing o.held_as s.held_as k.held_as)
+    ∙ sym (ap held (all_read _ _ short o.read s.read k.read c.if-next-file.false))

@@ -7,7 +7,7 @@ use native.Mathlib.Numerals.{add-one}
 use native.Mathlib.Omega.{arith}
 use lib.ListN.{length, get_or, take, drop}
 use lib.Seq.{drop-cons}
-use Rattle.files.specs.Held.{tabulate}
+use Rattle.layout.specs.Arrays.{tabulate}
 
 module _ {A : Type 0} (f : ℕ → A) where
   pub length-tabulate : (from n : ℕ) → length (tabulate f from n) ≡ n
