@@ -146,7 +146,7 @@ program_in l =
       code = take l.code.count l.code.list;
     }
 
--- a routine that was read, whose arrays are so in range
+-- a routine that was read, and so its arrays are in range
 pub record IsRead (l : Loaded) : Type 0 where
   pub file : List ℕ
   pub reading : ◌≡◌ {A = Result Loaded Refusal} (Ok l) (held (read_file 1 file))
