@@ -8,7 +8,7 @@ use lib.ListN.{length}
 use lib.Dec.{leb}
 use borrow.Author.Tests.{leb-true, leb-false, le-leb, lt-leb}
 use Rattle.std.specs.Prelude.{Result, Ok, Err}
-use Rattle.core.specs.Result.{result_or}
+use Rattle.std.specs.Result.{result_or}
 use Rattle.numbers.specs.declared.refusal.Cause.{Cause}
 use Rattle.numbers.specs.declared.refusal.Refusal.{Refusal}
 use Rattle.numbers.specs.Refusals.{refusal}
