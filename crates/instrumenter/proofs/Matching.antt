@@ -1,12 +1,12 @@
 -- Over the objects with their colors and the sets that are held, the two passes give version 2 of that routine.
 use Prim.Native.Nat.{ℕ, ◌+◌, ◌<◌}
 use native.Mathlib.Omega.{arith}
-use mathlib.Core.Path.{◌≡◌, refl, sym, ◌∙◌, ap, ap₂}
-use mathlib.Core.List.{List, [], ◌∷◌, ◌++◌, map}
+use mathlib.Core.Path.{◌≡◌, refl, sym, ◌∙◌, ap}
+use mathlib.Core.List.{List, [], ◌∷◌}
 use mathlib.Core.Bool.{Bool, true, false}
 use lib.ListN.{length, get_or}
 use Rattle.opcodes.specs.declared.Instr.{Instr}
-use Rattle.opcodes.specs.View.{in_global, at_temp, View, act, jump, jump_if, store, check, view, check_instr, bytes}
+use Rattle.opcodes.specs.View.{in_global, at_temp, View, act, jump, jump_if, store, check, view}
 use Rattle.instructions.specs.Moved.{moved}
 use Rattle.instructions.proofs.Tables.{agree}
 use Rattle.files.specs.Program.{Program}
@@ -15,10 +15,8 @@ use Rattle.files.specs.Held.{sets_held}
 use Rattle.files.proofs.Tests.{every_head, every_tail}
 use Rattle.files.proofs.GoodInstructions.{Names, names}
 use Rattle.files.proofs.RoundTrip.{Good, set_some}
-use Rattle.safety.specs.declared.Nature.{Nature}
 use Rattle.safety.specs.Nature.{put_nature, nature_of}
-use Rattle.safety.specs.Unsafe.{size_of, safe_put, safe_aim, Unsafe}
-use Rattle.coloring.specs.Color.{color_of_set}
+use Rattle.safety.specs.Unsafe.{size_of, safe_aim}
 use Rattle.coloring.specs.Colored.{tinted}
 use Rattle.coloring.proofs.Tinted.{tinted_size, tinted_at}
 use Rattle.checks.specs.Held.{color_at, check_nature, check_in}

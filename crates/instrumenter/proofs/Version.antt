@@ -1,24 +1,23 @@
 -- What is held after both passes is version 2 of the routine that was held before.
 use Prim.Native.Nat.{ℕ, ◌<◌, ◌≤◌}
 use native.Mathlib.Omega.{arith}
-use mathlib.Core.Path.{◌≡◌, refl, sym, ◌∙◌, ap}
+use mathlib.Core.Path.{◌≡◌, refl, ◌∙◌, ap}
 use mathlib.Core.List.{List}
 use mathlib.Core.Bool.{true}
 use lib.ListN.{length, get_or, take}
-use lib.Dec.{leb}
 use borrow.Author.Tests.{le-leb}
 use Rattle.opcodes.specs.declared.Instr.{Instr}
 use Rattle.files.specs.declared.arrays.Code.{Code}
 use Rattle.files.specs.declared.arrays.Loaded.{Loaded}
 use Rattle.files.specs.Program.{Program}
-use Rattle.files.specs.Writing.{both, good_instr, scope_of, good_program, spell_file}
-use Rattle.files.specs.Held.{blank, filled, held_as, code_held, shown, writable, file_of}
-use Rattle.files.proofs.Tests.{both_true, every_take}
+use Rattle.files.specs.Writing.{good_instr, scope_of, good_program}
+use Rattle.files.specs.Held.{blank, filled, held_as, code_held, shown, writable}
+use Rattle.files.proofs.Tests.{every_take}
 use Rattle.files.proofs.Filled.{take-filled}
 use Rattle.files.proofs.RoundTrip.{Good, lines_bounds}
 use Rattle.coloring.specs.Colored.{tinted, with_colors}
 use Rattle.coloring.proofs.Tinted.{tinted_length}
-use Rattle.instrumenter.specs.Instrumented.{checks_of, instrumented, guarded, new_place, span_of}
+use Rattle.instrumenter.specs.Instrumented.{checks_of, instrumented, guarded, new_place}
 use Rattle.instrumenter.specs.Arrays.{PlacesAre, Version2}
 use Rattle.instrumenter.proofs.Spans.{length-guarded, span_most}
 use Rattle.instrumenter.proofs.Matching.{checks_held, span_held, guarded_held}
