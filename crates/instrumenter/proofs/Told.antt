@@ -32,12 +32,13 @@ use Rattle.instrumenter.proofs.Answers.{unread, crowded, overfull, cramped, writ
 use Rattle.instrumenter.proofs.Instrumenting.{instrumented_good}
 use Rattle.instrumenter.proofs.Version.{shown_is, writable_is}
 
+-- what a routine that reads is held as: with its colors, or not at all
 answered : (p : Program) (b : Bool) → few_classes p ≡ b → held (colored (whole p)) ≡ elim b as (λ _. Result Loaded Refusal) [ true ↦ Ok (held_as (with_colors (color_in p) p)) | false ↦ Err (refusal Cause.ManyClasses 0) ]
 unfolding colored
 answered p true e = rw (e, classed, on_whole, held)
 answered p false e = rw (e, classed, on_whole, held)
 
--- ---- a file that is refused with 1 to 8
+-- ---- a file that is refused with 1 to 8 is answered so
 
 pub stays : (bytes : List ℕ) (q : Refusal) → ◌≡◌ {A = Result Loaded Refusal} (Err q) (held (colored (read_file 1 bytes))) → (room : ℕ) → instrument bytes room ≡ FileAnswer.refused q
 unfolding colored
@@ -88,7 +89,7 @@ module _ (bytes : List ℕ) (l : Loaded) (e : ◌≡◌ {A = Result Loaded Refus
   too_high h room =
       answers bytes room (overfull k.read k.classes (sym (own_fit k.routine) ∙ lt-leb _ 28672 (rw end_is at h)))
 
-  -- what writing its version 2 leaves
+  -- what is answered where its version 2 is written or does not fit, and what it leaves in the room
   module _ (out : Code) (v : Version2 l out) (low : end_of (pieces_in l.objects) ≤ 28672) (room : List ℕ) where
     fits : globals_fit k.routine ≡ true
     fits = sym (own_fit k.routine) ∙ le-leb _ 28672 (rw end_is at low)

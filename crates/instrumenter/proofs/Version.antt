@@ -1,4 +1,4 @@
--- What is held after both passes is version 2 of the routine that was held before.
+-- The code after both passes is that of version 2 of the routine that was held, which so is a program.
 use Prim.Native.Nat.{ℕ, ◌<◌, ◌≤◌}
 use native.Mathlib.Omega.{arith}
 use mathlib.Core.Path.{◌≡◌, refl, ◌∙◌, ap}

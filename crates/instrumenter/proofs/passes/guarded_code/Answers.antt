@@ -1,3 +1,4 @@
+-- One instruction more, behind its check or alone.
 use mathlib.Core.Path.{ap}
 use Rattle.opcodes.specs.declared.Instr.{Instr}
 use Rattle.files.proofs.Filled.{filled_none}

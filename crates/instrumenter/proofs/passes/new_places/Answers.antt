@@ -1,3 +1,4 @@
+-- One instruction more, which becomes one or two.
 use mathlib.Core.Path.{refl}
 use Rattle.instrumenter.proofs.Turns.{placing_none, placing_more}
 use Rattle.instrumenter.proofs.passes.new_places.Goals as goal
