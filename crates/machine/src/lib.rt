@@ -4,35 +4,17 @@
 ghost use Rattle.std.specs.Prelude.{◌≡◌};
 ghost use Rattle.machine.specs.Running.{run_file, answered, lent_of};
 
-use files::Outcome;
 use memory::lengths::are_exact;
-use numbers::Refusal;
-use stops::{Reason, Run, refused};
+use numbers::refusal::{Cause, Refusal};
+use stops::{Run, refused};
 
-mod temps; // temps.rt: temporaries and calculations
-mod moves; // moves.rt: jumps, input and output
-mod step; // step.rt: one turn
-mod running; // running.rt: the run loop
-mod loaded; // loaded.rt: a run of what was read
 mod lent; // lent.rt: memory, table and heap
-
-// How far a run has come: the counts of numbers taken and out, the next instruction, and the steps. What
-// changes least stands first: in a turn's answer a reason to stop shares the bytes of the first field,
-// and the number there is put together from its bytes in each turn.
-#[derive(Clone, Copy)]
-struct Progress {
-    taken: usize,
-    out: usize,
-    at: usize,
-    steps: u32,
-}
-
-// What one turn answers.
-#[derive(Clone, Copy)]
-enum Turn {
-    Stop(Reason),
-    On(Progress),
-}
+mod loaded; // loaded.rt: a run of what was read
+mod moves; // moves.rt: input and output
+mod progress; // progress.rt: how far a run has come
+mod running; // running.rt: the run loop
+mod step; // step.rt: one turn
+mod temps; // temps.rt: temporaries
 
 // Runs a file of version 2 on lent memory and table, with numbers from `input` and to `room`, for at most
 // `limit` steps. Nothing is asked of the caller, and nothing that a file can say does more than stop.
@@ -48,14 +30,12 @@ pub fn run_file(
 {
     if !are_exact(memory, table) {
         return refused(Refusal {
-            number: 11,
+            cause: Cause::WrongLength,
             place: 0,
         });
     }
-    let held = files::read_program(file);
-    let outcome = held.outcome;
-    match outcome {
-        Outcome::Refused(why) => refused(why),
-        Outcome::Whole => loaded::run_loaded(held, input, limit, memory, table, room),
+    match files::read_program(file) {
+        Ok(held) => loaded::run_loaded(&held, input, limit, memory, table, room),
+        Err(why) => refused(why),
     }
 }

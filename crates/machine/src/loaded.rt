@@ -5,36 +5,38 @@ ghost use Rattle.machine.specs.Running.{answered, lent_of};
 
 use super::running::run_code;
 use files::Loaded;
-use numbers::Refusal;
+use numbers::refusal::{Cause, Refusal};
 use stops::{Run, refused};
 
 // Runs what was read. Refusal 9 comes before anything is changed.
 pub(crate) fn run_loaded(
-    held: Loaded,
+    held: &Loaded,
     input: &[u32],
     limit: u32,
     memory: &mut [u8],
     table: &mut [u8],
     room: &mut [u32],
 ) -> Run
-    requires { Runnable held (lent_of memory.old table.old room.old) }
-    ensures { answered result (lent_of memory.new table.new room.new) ≡ run_loaded held input.now limit (lent_of memory.old table.old room.old) }
+    requires { Runnable held.now (lent_of memory.old table.old room.old) }
+    ensures { answered result (lent_of memory.new table.new room.new) ≡ run_loaded held.now input.now limit (lent_of memory.old table.old room.old) }
 {
-    let kinds = held.kinds;
-    let sizes = held.sizes;
-    let colors = held.colors;
-    let objects = held.objects;
-    let code = held.code;
-    let lines = held.lines;
-    let laid = start::lay(kinds, sizes, colors, objects, memory, table);
+    let laid = start::lay(&held.objects, memory, table);
     if !laid.fits {
         return refused(Refusal {
-            number: 9,
+            cause: Cause::LargeGlobals,
             place: 0,
         });
     }
-    let starts = laid.starts;
+    let code = &held.code.list[..held.code.count];
+    let objects = &held.objects.list[..held.objects.count];
     run_code(
-        code, lines, starts, colors, input, limit, memory, table, room,
+        code,
+        &laid.starts,
+        objects,
+        input,
+        limit,
+        memory,
+        table,
+        room,
     )
 }
