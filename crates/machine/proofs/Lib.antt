@@ -4,3 +4,5 @@ pub mod Turns
 pub mod Landing
 pub mod Going
 pub mod Temporaries
+pub mod Agreeing
+pub mod Loading

@@ -115,7 +115,9 @@ pub(crate) fn alloc(
     ensures table_after { table.new ≡ (allocated memory.old table.old (temp temps.old a) g (color_of_object objects.now g)).table }
 {
     let size = value(temps, a);
-    let body = heap::making::alloc(memory, table, size, g, color_of(objects, g)).map_err(reason_of)?;
+    let body = heap::making::alloc(memory, table, size, g, color_of(objects, g)).map_err(
+        reason_of,
+    )?;
     Ok(becomes(from, d, body.unwrap_or(0), temps))
 }
 

@@ -6,10 +6,10 @@ ghost use Rattle.machine.specs.Running.{run_file, answered, lent_of};
 
 use memory::lengths::are_exact;
 use numbers::refusal::{Cause, Refusal};
+use running::run_code;
 use stops::{Run, refused};
 
 mod lent; // lent.rt: memory, table and heap
-mod loaded; // loaded.rt: a run of what was read
 mod moves; // moves.rt: input and output
 mod progress; // progress.rt: how far a run has come
 mod running; // running.rt: the run loop
@@ -18,6 +18,7 @@ mod temps; // temps.rt: temporaries
 
 // Runs a file of version 2 on lent memory and table, with numbers from `input` and to `room`, for at most
 // `limit` steps. Nothing is asked of the caller, and nothing that a file can say does more than stop.
+#[tactic(auto, using(crate::proofs::Loading::few_objects, crate::proofs::Loading::few_instrs), unfolding(crate::specs::Running::run_file))]
 pub fn run_file(
     file: &[u8],
     input: &[u32],
@@ -34,8 +35,28 @@ pub fn run_file(
             place: 0,
         });
     }
-    match files::read_program(file) {
-        Ok(held) => loaded::run_loaded(&held, input, limit, memory, table, room),
-        Err(why) => refused(why),
+    let held = match files::read_program(file) {
+        Ok(held) => held,
+        Err(why) => return refused(why),
+    };
+    // Refusal 9 comes before anything is changed.
+    let laid = start::lay(&held.objects, memory, table);
+    if !laid.fits {
+        return refused(Refusal {
+            cause: Cause::LargeGlobals,
+            place: 0,
+        });
     }
+    let code = &held.code.list[..held.code.count];
+    let objects = &held.objects.list[..held.objects.count];
+    run_code(
+        code,
+        &laid.starts,
+        objects,
+        input,
+        limit,
+        memory,
+        table,
+        room,
+    )
 }

@@ -43,7 +43,12 @@ pub(crate) fn step(
         Instr::Load8(d, a) => load::<One>(memory, temps, from, d, value(temps, a)),
         Instr::Load32(d, a) => load::<Four>(memory, temps, from, d, value(temps, a)),
         Instr::Put8(g, k, b) => store::<One>(memory, from, byte_of(starts, g, k), value(temps, b)),
-        Instr::Put32(g, k, b) => store::<Four>(memory, from, byte_of(starts, g, k), value(temps, b)),
+        Instr::Put32(g, k, b) => store::<Four>(
+            memory,
+            from,
+            byte_of(starts, g, k),
+            value(temps, b),
+        ),
         Instr::Write8(a, b, _) => store::<One>(memory, from, value(temps, a), value(temps, b)),
         Instr::Write32(a, b, _) => store::<Four>(memory, from, value(temps, a), value(temps, b)),
         Instr::Jump(p) => Ok(from.jumped(p)),
