@@ -5,20 +5,21 @@
 -- and uniting two classes keep both, where the sets chain what is united; so does any sequence of them
 -- (`Step`, which composes). In the end soundness says that labels join no more than chains do, and what
 -- was kept says that they join no less.
-use Prim.Native.Nat.{ℕ, zero, suc, ◌<◌, ◌≤◌}
+use Prim.Native.Nat.{ℕ, ◌<◌, ◌≤◌}
 use native.Mathlib.Omega.{arith}
 use mathlib.Core.Path.{◌≡◌, refl, sym, ◌∙◌, ap}
 use mathlib.Core.Logic.{◌⊎◌, inl, inr, ⊎_elim, ◌≢◌}
-use mathlib.Core.List.{List, [], ◌∷◌}
+use mathlib.Core.List.{List, map}
 use mathlib.Core.Bool.{Bool, true, false}
 use lib.ListN.{length, get_or, set, length-set}
 use lib.Seq.{get_or-set_same, get_or-set_other}
 use lib.Dec.{eqb, ltb}
-use borrow.Author.Tests.{eqb-true, eqb-false, ltb-true, ltb-false}
+use borrow.Author.Tests.{eqb-true, eqb-false, ltb-true, ltb-false, lt-ltb, le-ltb, eq-eqb, ne_eqb}
+use Rattle.std.proofs.Math.Nat.{max-eq_left, max-eq_right, min-eq_left, min-eq_right}
+use Rattle.std.proofs.lemmas.List.{get_or-map, length-map}
 use Rattle.coloring.specs.Class.{Chain}
-use Rattle.coloring.specs.Labels.{touched, renamed, relabelled, united}
+use Rattle.coloring.specs.Labels.{touched, renamed, united, joined_to, Lowest}
 use Rattle.coloring.proofs.Chains.{chain_append, chain_sym}
-use Rattle.coloring.proofs.Turns.{touched_old, touched_new, renamed_same, renamed_other, united_left, united_right, united_same}
 
 -- x's label
 abbrev pub at : List ℕ → ℕ → ℕ
@@ -26,8 +27,7 @@ at l x = get_or l x 0
 
 pub record Sound (sets : List (List ℕ)) (l : List ℕ) : Type 0 where
   pub wide : length l ≡ 400
-  pub low : (x : ℕ) → x < 400 → at l x < 400 → at l x ≤ x
-  pub self : (x : ℕ) → x < 400 → at l x < 400 → at l (at l x) ≡ at l x
+  pub lowest : Lowest l
   pub chained : (x y : ℕ) → x < 400 → y < 400 → at l x < 400 → at l x ≡ at l y → Chain sets x y
 
 -- of one class, by the labels
@@ -70,6 +70,12 @@ below_or x y = go (ltb x y) refl
 
 -- ---- an object gets a label
 
+touched_old : (l : List ℕ) (x : ℕ) → at l x < 400 → touched l x ≡ l
+touched_old l x h = rw (lt-ltb (at l x) 400 h, touched)
+
+touched_new : (l : List ℕ) (x : ℕ) → 400 ≤ at l x → touched l x ≡ set l x x
+touched_new l x h = rw (le-ltb (at l x) 400 h, touched)
+
 module _ (sets : List (List ℕ)) (l : List ℕ) (s : Sound sets l) (x : ℕ) (h : x < 400) where
   new_same : at (set l x x) x ≡ x
   new_same = get_or-set_same l x x 0 (omega (arith, s.wide))
@@ -81,7 +87,7 @@ module _ (sets : List (List ℕ)) (l : List ℕ) (s : Sound sets l) (x : ℕ) (h
     -- no other object has the label x
     unlabelled : (y : ℕ) → y < 400 → at l y < 400 → at l y ≡ x → ⊥
     unlabelled y p q e =
-        let f : at l (at l y) ≡ at l y = s.self y p q in
+        let f : at l (at l y) ≡ at l y = s.lowest.self y p q in
         let g : at l x ≡ x = rw e at f in
         omega arith
 
@@ -89,8 +95,11 @@ module _ (sets : List (List ℕ)) (l : List ℕ) (s : Sound sets l) (x : ℕ) (h
     new_sound =
         record {
           wide = length-set l x x ∙ s.wide;
-          low = λ y p. ⊎_elim (λ (e : y ≡ x). λ q. rw e (omega (arith, new_same))) (λ n. rw (new_other y n) (s.low y p)) (equal_or y x);
-          self = self';
+          lowest =
+              record {
+                low = λ y p. ⊎_elim (λ (e : y ≡ x). λ q. rw e (omega (arith, new_same))) (λ n. rw (new_other y n) (s.lowest.low y p)) (equal_or y x);
+                self = self';
+              };
           chained = chained';
         }
       where
@@ -101,7 +110,7 @@ module _ (sets : List (List ℕ)) (l : List ℕ) (s : Sound sets l) (x : ℕ) (h
             (λ n.
             let o : at (set l x x) y ≡ at l y = new_other y n in
             let q' : at l y < 400 = omega (arith, o, q) in
-            rw o (new_other (at l y) (unlabelled y p q') ∙ s.self y p q'))
+            rw o (new_other (at l y) (unlabelled y p q') ∙ s.lowest.self y p q'))
             (equal_or y x)
 
         chained' : (y z : ℕ) → y < 400 → z < 400 → at (set l x x) y < 400 → at (set l x x) y ≡ at (set l x x) z → Chain sets y z
@@ -145,18 +154,11 @@ module _ (sets : List (List ℕ)) (l : List ℕ) (s : Sound sets l) (x : ℕ) (h
 
 -- ---- two classes become one
 
-pub length-relabelled : (from to n : ℕ) (l : List ℕ) → length (relabelled from to n l) ≡ length l
-unfolding relabelled
-length-relabelled from to zero l = refl
-length-relabelled from to (suc n) [] = refl
-length-relabelled from to (suc n) (v ∷ l) = ap suc (length-relabelled from to n l)
+renamed_same : (from to v : ℕ) → v ≡ from → renamed from to v ≡ to
+renamed_same from to v e = rw (eq-eqb v from e, renamed)
 
-relabelled_at : (from to n : ℕ) (l : List ℕ) (x : ℕ) → x < n → x < length l → at (relabelled from to n l) x ≡ renamed from to (at l x)
-unfolding relabelled
-relabelled_at from to zero l x h k = absurd (omega arith)
-relabelled_at from to (suc n) [] x h k = absurd (omega arith)
-relabelled_at from to (suc n) (v ∷ l) zero h k = refl
-relabelled_at from to (suc n) (v ∷ l) (suc x) h k = relabelled_at from to n l x (omega arith) (omega arith)
+renamed_other : (from to v : ℕ) → v ≢ from → renamed from to v ≡ v
+renamed_other from to v e = rw (ne_eqb v from e, renamed)
 
 -- a label becomes the new one, or was another and stays
 renamed_cases : (from to v : ℕ) → ((v ≡ from) × (renamed from to v ≡ to)) ⊎ ((v ≢ from) × (renamed from to v ≡ v))
@@ -166,10 +168,10 @@ renamed_cases from to v =
 -- the class of u gets the lower label of w's
 module _ (sets : List (List ℕ)) (l : List ℕ) (s : Sound sets l) (u w : ℕ) (pu : u < 400) (pw : w < 400) (hu : at l u < 400) (le : at l w ≤ at l u) (c : Chain sets u w) where
   abbrev merged : List ℕ
-  merged = relabelled (at l u) (at l w) 400 l
+  merged = map (renamed (at l u) (at l w)) l
 
   merged_at : (y : ℕ) → y < 400 → at merged y ≡ renamed (at l u) (at l w) (at l y)
-  merged_at y h = relabelled_at (at l u) (at l w) 400 l y h (omega (arith, s.wide))
+  merged_at y h = get_or-map (renamed (at l u) (at l w)) l y 0 0 (omega (arith, s.wide))
 
   -- a label after it: the lower one where it was one of the two, and the same otherwise
   merged_cases : (y : ℕ) → y < 400 → ((at l y ≡ at l u) × (at merged y ≡ at l w)) ⊎ ((at l y ≢ at l u) × (at merged y ≡ at l y))
@@ -192,14 +194,14 @@ module _ (sets : List (List ℕ)) (l : List ℕ) (s : Sound sets l) (u w : ℕ) 
   merged_low : (y : ℕ) → y < 400 → at merged y < 400 → at merged y ≤ y
   merged_low y h b =
       ⊎_elim
-      (λ e. omega (arith, e.0, e.1, s.low y h (omega (arith, e.0))))
-      (λ n. omega (arith, n.1, s.low y h (omega (arith, n.1, b))))
+      (λ e. omega (arith, e.0, e.1, s.lowest.low y h (omega (arith, e.0))))
+      (λ n. omega (arith, n.1, s.lowest.low y h (omega (arith, n.1, b))))
       (merged_cases y h)
 
   -- the lower label keeps itself
   merged_w : at merged (at l w) ≡ at l w
   merged_w =
-      let k : at l (at l w) ≡ at l w = s.self w pw hw in
+      let k : at l (at l w) ≡ at l w = s.lowest.self w pw hw in
       ⊎_elim (λ e. e.1) (λ n. n.1 ∙ k) (merged_cases (at l w) hw)
 
   merged_self : (y : ℕ) → y < 400 → at merged y < 400 → at merged (at merged y) ≡ at merged y
@@ -208,7 +210,7 @@ module _ (sets : List (List ℕ)) (l : List ℕ) (s : Sound sets l) (u w : ℕ) 
       (λ e. ap (at merged) e.1 ∙ merged_w ∙ sym e.1)
       (λ n.
       let b' : at l y < 400 = omega (arith, n.1, b) in
-      let k : at l (at l y) ≡ at l y = s.self y h b' in
+      let k : at l (at l y) ≡ at l y = s.lowest.self y h b' in
       ap (at merged) n.1
       ∙ ⊎_elim
       (λ e. absurd (n.0 (sym k ∙ e.0)))
@@ -240,9 +242,8 @@ module _ (sets : List (List ℕ)) (l : List ℕ) (s : Sound sets l) (u w : ℕ) 
       record {
         sound =
             record {
-              wide = length-relabelled (at l u) (at l w) 400 l ∙ s.wide;
-              low = merged_low;
-              self = merged_self;
+              wide = length-map l (renamed (at l u) (at l w)) ∙ s.wide;
+              lowest = record { low = merged_low; self = merged_self };
               chained = merged_chained;
             };
         kept = merged_kept;
@@ -254,26 +255,41 @@ module _ (sets : List (List ℕ)) (l : List ℕ) (s : Sound sets l) (u w : ℕ) 
       let ew : at merged w ≡ at l w = ⊎_elim (λ e. e.1) (λ n. n.1) (merged_cases w pw) in
       (omega (arith, eu, hw), eu ∙ sym ew)
 
+-- the lower label is kept
+united_first : (l : List ℕ) (a b : ℕ) → at l a ≤ at l b → united l a b ≡ map (renamed (at l b) (at l a)) l
+united_first l a b h = rw (max-eq_right h, min-eq_left h)
+
+united_second : (l : List ℕ) (a b : ℕ) → at l b ≤ at l a → united l a b ≡ map (renamed (at l a) (at l b)) l
+united_second l a b h = rw (max-eq_left h, min-eq_right h)
+
 -- any two labelled objects that are chained
 module _ (sets : List (List ℕ)) (l : List ℕ) (s : Sound sets l) (a b : ℕ) (pa : a < 400) (pb : b < 400) (ha : at l a < 400) (hb : at l b < 400) (c : Chain sets a b) where
-  compare_at : (at l a < at l b) ⊎ ((at l b < at l a) ⊎ (at l a ≡ at l b))
-  compare_at =
-      ⊎_elim inl (λ p. inr (⊎_elim inl (λ q. inr (omega arith)) (below_or (at l b) (at l a)))) (below_or (at l a) (at l b))
-
-  pub united_step : Step sets l (united l a b)
+  united_step : Step sets l (united l a b)
   united_step =
       ⊎_elim
-      (λ p. rw (united_left l a b p) (merge_step sets l s b a pb pa hb (omega arith) (chain_sym c)))
-      (⊎_elim
-      (λ p. rw (united_right l a b p) (merge_step sets l s a b pa pb ha (omega arith) c))
-      (λ p. rw (united_same l a b p) (step_none sets l s)))
-      compare_at
+      (λ p. let h : at l a ≤ at l b = omega arith in rw (united_first l a b h) (merge_step sets l s b a pb pa hb h (chain_sym c)))
+      (λ p. rw (united_second l a b p) (merge_step sets l s a b pa pb ha p c))
+      (below_or (at l a) (at l b))
 
-  pub united_together : Together (united l a b) a b
+  united_together : Together (united l a b) a b
   united_together =
       ⊎_elim
-      (λ p. rw (united_left l a b p) (together_sym (relabelled (at l b) (at l a) 400 l) b a (merge_together sets l s b a pb pa hb (omega arith) (chain_sym c))))
-      (⊎_elim
-      (λ p. rw (united_right l a b p) (merge_together sets l s a b pa pb ha (omega arith) c))
-      (λ p. rw (united_same l a b p) (ha, p)))
-      compare_at
+      (λ p.
+      let h : at l a ≤ at l b = omega arith in
+      rw (united_first l a b h) (together_sym (map (renamed (at l b) (at l a)) l) b a (merge_together sets l s b a pb pa hb h (chain_sym c))))
+      (λ p. rw (united_second l a b p) (merge_together sets l s a b pa pb ha p c))
+      (below_or (at l a) (at l b))
+
+-- b comes into the class of a, which has a class by then
+module _ (sets : List (List ℕ)) (l : List ℕ) (s : Sound sets l) (a b : ℕ) (pa : a < 400) (pb : b < 400) (c : Chain sets a b) where
+  touch : Step sets l (touched l b)
+  touch = touched_step sets l s b pb (chain_append (chain_sym c) c)
+
+  pub still_labelled : at l a < 400 → at (touched l b) a < 400
+  still_labelled h = (touch.kept a a pa pa (h, refl)).0
+
+  pub joined_step : at (touched l b) a < 400 → Step sets l (joined_to a l b)
+  joined_step h = step_on touch (united_step sets (touched l b) touch.sound a b pa pb h (touched_in sets l s b pb) c)
+
+  pub joined_together : at (touched l b) a < 400 → Together (joined_to a l b) a b
+  joined_together h = united_together sets (touched l b) touch.sound a b pa pb h (touched_in sets l s b pb) c

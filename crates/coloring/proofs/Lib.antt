@@ -18,6 +18,7 @@ pub mod Colors
 pub mod Order
 pub mod Tinted
 pub mod Turns
+pub mod Numbered
 pub mod Joining
 pub mod Spans
 pub mod Marking

@@ -1,6 +1,6 @@
 -- What the instructions say of the labels and of the sets in use, and that it is what the unsafe
 -- instructions' sets say.
-use Prim.Native.Nat.{ℕ, zero, suc, ◌+◌, ◌<◌, ◌≤◌}
+use Prim.Native.Nat.{ℕ, zero, suc, ◌<◌, ◌≤◌}
 use native.Mathlib.Omega.{arith}
 use mathlib.Core.Path.{◌≡◌, refl, sym, ◌∙◌, ap}
 use mathlib.Core.Logic.{◌⊎◌, inl, inr, ⊎_elim}
@@ -10,13 +10,11 @@ use lib.ListN.{length, get_or, set, length-set}
 use lib.Seq.{get_or-set_same, get_or-set_other}
 use borrow.Author.Tests.{lt-ltb, le-ltb}
 use Rattle.opcodes.specs.declared.Instr.{Instr}
-use Rattle.files.specs.declared.Line.{Line}
 use Rattle.files.specs.Program.{Program}
-use Rattle.files.specs.Held.{line}
 use Rattle.opcodes.specs.View.{Aim, in_global, at_temp, View, act, jump, jump_if, store, check, view, bytes}
 use Rattle.safety.specs.declared.Nature.{Nature}
 use Rattle.safety.specs.declared.Nature.TheVariants.{Safe, Own, Listed, Jump, Check, Other}
-use Rattle.safety.specs.Nature.{nature_of, sizes_in}
+use Rattle.safety.specs.Nature.{nature_of}
 use Rattle.safety.specs.Unsafe.{size_of, safe_put, Unsafe, unsafe_set, sets_in}
 use Rattle.coloring.specs.Class.{holds, Neighbours, Chain, last}
 use Rattle.coloring.specs.Labels.{touched, own_marked, use_marked, owns_marked, uses_marked}
@@ -127,53 +125,16 @@ module _ (p : Program) where
       (λ k. from_later (set_from code k))
       (in_cases (unsafe_set p (view i)) (sets_in p code) h)
 
--- ---- the marks, over the list of instructions
-
-module _ (size : ℕ → ℕ) where
-  unfoldable pub owns_done : List Instr → List ℕ → List ℕ
-  owns_done [] l = l
-  owns_done (i ∷ is) l = owns_done is (own_marked (nature_of size (view i)) l)
-
-  unfoldable pub uses_done : List Instr → List Bool → List Bool
-  uses_done [] u = u
-  uses_done (i ∷ is) u = uses_done is (use_marked (nature_of size (view i)) u)
-
--- the instructions stand in an array from `at` on
-abbrev pub CodeAt : List Line → (at : ℕ) → List Instr → Type 0
-CodeAt lines at code = (k : ℕ) → k < length code → get_or lines (at + k) (line Instr.End) ≡ line (get_or code k Instr.End)
-
-code_first : (lines : List Line) (at : ℕ) (i : Instr) (is : List Instr) → CodeAt lines at (i ∷ is) → get_or lines at (line Instr.End) ≡ line i
-code_first lines at i is h = let z : at + 0 ≡ at = omega arith in rw z at (h 0 (omega arith))
-
-code_rest : (lines : List Line) (at : ℕ) (i : Instr) (is : List Instr) → CodeAt lines at (i ∷ is) → CodeAt lines (at + 1) is
-code_rest lines at i is h k p = let z : at + 1 + k ≡ at + suc k = omega arith in rw z (h (suc k) (omega arith))
-
-pub owns_list : (sz : List ℕ) (lines : List Line) (code : List Instr) (at : ℕ) (l : List ℕ) → CodeAt lines at code
-    → owns_marked (length code) sz lines at l ≡ owns_done (sizes_in sz) code l
-unfolding owns_marked owns_done
-owns_list sz lines [] at l h = refl
-owns_list sz lines (i ∷ is) at l h =
-    ap (λ (x : Line). owns_marked (length is) sz lines (at + 1) (own_marked (nature_of (sizes_in sz) (view x.instr)) l)) (code_first lines at i is h)
-    ∙ owns_list sz lines is (at + 1) (own_marked (nature_of (sizes_in sz) (view i)) l) (code_rest lines at i is h)
-
-pub uses_list : (sz : List ℕ) (lines : List Line) (code : List Instr) (at : ℕ) (u : List Bool) → CodeAt lines at code
-    → uses_marked (length code) sz lines at u ≡ uses_done (sizes_in sz) code u
-unfolding uses_marked uses_done
-uses_list sz lines [] at u h = refl
-uses_list sz lines (i ∷ is) at u h =
-    ap (λ (x : Line). uses_marked (length is) sz lines (at + 1) (use_marked (nature_of (sizes_in sz) (view x.instr)) u)) (code_first lines at i is h)
-    ∙ uses_list sz lines is (at + 1) (use_marked (nature_of (sizes_in sz) (view i)) u) (code_rest lines at i is h)
-
 -- ---- what they do
 
 module _ (sets : List (List ℕ)) (size : ℕ → ℕ) where
   abbrev Fine : Nature → Type 0
   Fine n = (g : ℕ) → n ≡ Own g → (g < 400) × Chain sets g g
 
-  mark_own : (l : List ℕ) (g : ℕ) → g < 400 → own_marked (Own g) l ≡ touched l g
+  mark_own : (l : List ℕ) (g : ℕ) → g < 400 → own_marked l (Own g) ≡ touched l g
   mark_own l g h = rw (lt-ltb g 400 h, own_marked)
 
-  mark_step : (n : Nature) (l : List ℕ) → Sound sets l → Fine n → Step sets l (own_marked n l)
+  mark_step : (n : Nature) (l : List ℕ) → Sound sets l → Fine n → Step sets l (own_marked l n)
   mark_step Safe l s f = step_none sets l s
   mark_step (Own g) l s f = rw (mark_own l g (f g refl).0) (touched_step sets l s g (f g refl).0 (f g refl).1)
   mark_step (Listed t) l s f = step_none sets l s
@@ -181,23 +142,22 @@ module _ (sets : List (List ℕ)) (size : ℕ → ℕ) where
   mark_step Check l s f = step_none sets l s
   mark_step Other l s f = step_none sets l s
 
-  mark_in : (l : List ℕ) (g : ℕ) (n : Nature) → Sound sets l → g < 400 → n ≡ Own g → at (own_marked n l) g < 400
+  mark_in : (l : List ℕ) (g : ℕ) (n : Nature) → Sound sets l → g < 400 → n ≡ Own g → at (own_marked l n) g < 400
   mark_in l g n s h e = rw e (rw (mark_own l g h) (touched_in sets l s g h))
 
-  pub record OwnsDone (code : List Instr) (l m : List ℕ) : Type 0 where
+  pub record OwnsMarked (code : List Instr) (l m : List ℕ) : Type 0 where
     pub step : Step sets l m
     pub inside : (g : ℕ) → Named size (Own g) code → Together m g g
 
-  pub owns_done_lem : (code : List Instr) (l : List ℕ) → Sound sets l → ((g : ℕ) → Named size (Own g) code → (g < 400) × Chain sets g g) → OwnsDone code l (owns_done size code l)
-  unfolding owns_done
-  owns_done_lem [] l s f = record { step = step_none sets l s; inside = λ g h. elim h [ ] }
-  owns_done_lem (i ∷ is) l s f =
+  pub owns_marked_lem : (code : List Instr) (l : List ℕ) → Sound sets l → ((g : ℕ) → Named size (Own g) code → (g < 400) × Chain sets g g) → OwnsMarked code l (owns_marked size l code)
+  owns_marked_lem [] l s f = record { step = step_none sets l s; inside = λ g h. elim h [ ] }
+  owns_marked_lem (i ∷ is) l s f =
       let n : Nature = nature_of size (view i) in
-      let one : Step sets l (own_marked n l) = mark_step n l s (λ g e. f g (here e)) in
-      let r : OwnsDone is (own_marked n l) (owns_done size is (own_marked n l)) = owns_done_lem is (own_marked n l) one.sound (λ g h. f g (there h)) in
-      record { step = step_on one r.step; inside = within (own_marked n l) (owns_done size is (own_marked n l)) r (λ g e b. mark_in l g n s b e) }
+      let one : Step sets l (own_marked l n) = mark_step n l s (λ g e. f g (here e)) in
+      let r : OwnsMarked is (own_marked l n) (owns_marked size (own_marked l n) is) = owns_marked_lem is (own_marked l n) one.sound (λ g h. f g (there h)) in
+      record { step = step_on one r.step; inside = within (own_marked l n) (owns_marked size (own_marked l n) is) r (λ g e b. mark_in l g n s b e) }
     where
-      within : (k m : List ℕ) → OwnsDone is k m → ((g : ℕ) → nature_of size (view i) ≡ Own g → g < 400 → at k g < 400)
+      within : (k m : List ℕ) → OwnsMarked is k m → ((g : ℕ) → nature_of size (view i) ≡ Own g → g < 400 → at k g < 400)
           → (g : ℕ) → Named size (Own g) (i ∷ is) → Together m g g
       within k m r z g (here e) =
           let b : g < 400 = (f g (here e)).0 in
@@ -206,13 +166,13 @@ module _ (sets : List (List ℕ)) (size : ℕ → ℕ) where
 
 -- the sets in use
 module _ (size : ℕ → ℕ) where
-  use_inside : (u : List Bool) (s : ℕ) → s < 400 → use_marked (Listed s) u ≡ set u s true
+  use_inside : (u : List Bool) (s : ℕ) → s < 400 → use_marked u (Listed s) ≡ set u s true
   use_inside u s h = rw (lt-ltb s 400 h, use_marked)
 
-  use_past : (u : List Bool) (s : ℕ) → 400 ≤ s → use_marked (Listed s) u ≡ u
+  use_past : (u : List Bool) (s : ℕ) → 400 ≤ s → use_marked u (Listed s) ≡ u
   use_past u s h = rw (le-ltb s 400 h, use_marked)
 
-  use_wide : (n : Nature) (u : List Bool) → length (use_marked n u) ≡ length u
+  use_wide : (n : Nature) (u : List Bool) → length (use_marked u n) ≡ length u
   use_wide Safe u = refl
   use_wide (Own g) u = refl
   use_wide (Listed s) u =
@@ -236,7 +196,7 @@ module _ (size : ℕ → ℕ) where
   set_only : (u : List Bool) (s t : ℕ) → get_or (set u s true) t false ≡ true → (get_or u t false ≡ true) ⊎ (t ≡ s)
   set_only u s t h = ⊎_elim inr (λ n. inl (sym (get_or-set_other u s t true false n) ∙ h)) (equal_or t s)
 
-  use_kept : (n : Nature) (u : List Bool) (t : ℕ) → get_or u t false ≡ true → get_or (use_marked n u) t false ≡ true
+  use_kept : (n : Nature) (u : List Bool) (t : ℕ) → get_or u t false ≡ true → get_or (use_marked u n) t false ≡ true
   use_kept Safe u t h = h
   use_kept (Own g) u t h = h
   use_kept (Listed s) u t h =
@@ -245,7 +205,7 @@ module _ (size : ℕ → ℕ) where
   use_kept Check u t h = h
   use_kept Other u t h = h
 
-  use_only : (n : Nature) (u : List Bool) (t : ℕ) → get_or (use_marked n u) t false ≡ true → (get_or u t false ≡ true) ⊎ (n ≡ Listed t)
+  use_only : (n : Nature) (u : List Bool) (t : ℕ) → get_or (use_marked u n) t false ≡ true → (get_or u t false ≡ true) ⊎ (n ≡ Listed t)
   use_only Safe u t h = inl h
   use_only (Own g) u t h = inl h
   use_only (Listed s) u t h =
@@ -257,25 +217,22 @@ module _ (size : ℕ → ℕ) where
   use_only Check u t h = inl h
   use_only Other u t h = inl h
 
-  pub uses_kept : (code : List Instr) (u : List Bool) (t : ℕ) → get_or u t false ≡ true → get_or (uses_done size code u) t false ≡ true
-  unfolding uses_done
+  pub uses_kept : (code : List Instr) (u : List Bool) (t : ℕ) → get_or u t false ≡ true → get_or (uses_marked size u code) t false ≡ true
   uses_kept [] u t h = h
-  uses_kept (i ∷ is) u t h = uses_kept is (use_marked (nature_of size (view i)) u) t (use_kept (nature_of size (view i)) u t h)
+  uses_kept (i ∷ is) u t h = uses_kept is (use_marked u (nature_of size (view i))) t (use_kept (nature_of size (view i)) u t h)
 
-  pub uses_only : (code : List Instr) (u : List Bool) (t : ℕ) → get_or (uses_done size code u) t false ≡ true → (get_or u t false ≡ true) ⊎ Named size (Listed t) code
-  unfolding uses_done
+  pub uses_only : (code : List Instr) (u : List Bool) (t : ℕ) → get_or (uses_marked size u code) t false ≡ true → (get_or u t false ≡ true) ⊎ Named size (Listed t) code
   uses_only [] u t h = inl h
   uses_only (i ∷ is) u t h =
       ⊎_elim
       (λ k. ⊎_elim inl (λ e. inr (here e)) (use_only (nature_of size (view i)) u t k))
       (λ k. inr (there k))
-      (uses_only is (use_marked (nature_of size (view i)) u) t h)
+      (uses_only is (use_marked u (nature_of size (view i))) t h)
 
-  pub uses_named : (code : List Instr) (u : List Bool) (t : ℕ) → length u ≡ 400 → t < 400 → Named size (Listed t) code → get_or (uses_done size code u) t false ≡ true
-  unfolding uses_done
+  pub uses_named : (code : List Instr) (u : List Bool) (t : ℕ) → length u ≡ 400 → t < 400 → Named size (Listed t) code → get_or (uses_marked size u code) t false ≡ true
   uses_named [] u t w b h = elim h [ ]
   uses_named (i ∷ is) u t w b (here e) =
-      uses_kept is (use_marked (nature_of size (view i)) u) t
+      uses_kept is (use_marked u (nature_of size (view i))) t
       (rw e (rw (use_inside u t b) (get_or-set_same u t true false (omega (arith, w)))))
   uses_named (i ∷ is) u t w b (there h) =
-      uses_named is (use_marked (nature_of size (view i)) u) t (use_wide (nature_of size (view i)) u ∙ w) b h
+      uses_named is (use_marked u (nature_of size (view i))) t (use_wide (nature_of size (view i)) u ∙ w) b h

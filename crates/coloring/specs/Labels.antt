@@ -1,160 +1,136 @@
--- The coloring while it is computed, on arrays. The contracts inside the crate cite this; no promise to
--- another crate does.
+-- The coloring while it is computed. The contracts inside the crate cite this; no promise to another crate does.
 --
 -- An object's label is the lowest object of its class so far, and 400 or more where it has no class.
-use Rattle.std.specs.Prelude.{ℕ, zero, suc, ◌+◌, ◌-◌, ◌≤◌, ◌<◌, List, [], ◌∷◌, Bool, true, false, get_or, set, replicate, ltb, eqb}
-use Rattle.numbers.specs.declared.refusal.Cause.{Cause}
-use Rattle.numbers.specs.Refusals.{refusal}
+use Rattle.std.specs.Prelude.{ℕ, ◌+◌, ◌≤◌, ◌<◌, ◌≡◌, ◌==◌, List, [], ◌∷◌, ◌++◌, Bool, true, false, Result, Ok, get_or, set, map, take, drop, replicate, slice_range, min, max, ltb, eqb, count_by}
+use Rattle.std.specs.List.{fold, enumerate_from}
+use Rattle.numbers.specs.declared.refusal.Refusal.{Refusal}
 use Rattle.opcodes.specs.declared.Instr.{Instr}
-use Rattle.files.specs.declared.Line.{Line}
-use Rattle.files.specs.declared.Loaded.{Loaded}
 use Rattle.opcodes.specs.View.{view}
-use Rattle.files.specs.Reading.{Reading}
-use Rattle.files.specs.Held.{line, held}
+use Rattle.files.specs.declared.arrays.Objects.{Objects}
+use Rattle.files.specs.declared.arrays.Sets.{Sets}
+use Rattle.files.specs.declared.arrays.Loaded.{Loaded}
+use Rattle.files.specs.Program.{Program}
+use Rattle.files.specs.Reading.{read_file}
+use Rattle.files.specs.Held.{held}
 use Rattle.safety.specs.declared.Nature.{Nature}
-use Rattle.safety.specs.Nature.{nature_of, sizes_in}
+use Rattle.safety.specs.Unsafe.{size_of}
+use Rattle.safety.specs.Nature.{nature_of}
+use Rattle.coloring.specs.Colored.{tinted}
 
 -- ---- joining classes
 
 -- x has a class from now on
-unfoldable pub touched : List ℕ → (x : ℕ) → List ℕ
+abbrev pub touched : List ℕ → (x : ℕ) → List ℕ
 touched labels x = elim (ltb (get_or labels x 0) 400) [ true ↦ labels | false ↦ set labels x x ]
 
-abbrev pub renamed : (from to v : ℕ) → ℕ
-renamed from to v = elim (eqb v from) [ true ↦ to | false ↦ v ]
-
--- the first n labels with one renamed
-unfoldable pub relabelled : (from to n : ℕ) → List ℕ → List ℕ
-relabelled from to zero labels = labels
-relabelled from to (suc n) [] = []
-relabelled from to (suc n) (v ∷ labels) = renamed from to v ∷ relabelled from to n labels
+abbrev pub renamed : (from to label : ℕ) → ℕ
+renamed from to label = elim (eqb label from) [ true ↦ to | false ↦ label ]
 
 -- a and b are of one class, which keeps the lower label
-unfoldable pub united : List ℕ → (a b : ℕ) → List ℕ
+abbrev pub united : List ℕ → (a b : ℕ) → List ℕ
 united labels a b =
-    elim (ltb (get_or labels a 0) (get_or labels b 0)) [
-      | true ↦ relabelled (get_or labels b 0) (get_or labels a 0) 400 labels
-      | false ↦ elim (ltb (get_or labels b 0) (get_or labels a 0)) [
-        | true ↦ relabelled (get_or labels a 0) (get_or labels b 0) 400 labels
-        | false ↦ labels
-      ]
-    ]
+    map (renamed (max (get_or labels a 0) (get_or labels b 0)) (min (get_or labels a 0) (get_or labels b 0))) labels
 
--- the n members from `at` on are of the class of `first`
-unfoldable pub span_joined : (n : ℕ) → (members : List ℕ) (first at : ℕ) → List ℕ → List ℕ
-span_joined zero members first at labels = labels
-span_joined (suc n) members first at labels =
-    span_joined n members first (at + 1) (united (touched labels (get_or members at 0)) first (get_or members at 0))
+-- x is of the class of `first`
+abbrev pub joined_to : (first : ℕ) → List ℕ → (x : ℕ) → List ℕ
+joined_to first labels x = united (touched labels x) first x
 
-abbrev pub set_joined : (isUsed : Bool) → (members : List ℕ) (from to : ℕ) → List ℕ → List ℕ
-set_joined true members from to labels = span_joined (to - from) members (get_or members from 0) from labels
-set_joined false members from to labels = labels
+-- all of a set are of one class
+abbrev pub set_joined : List ℕ → List ℕ → List ℕ
+set_joined labels set = fold (joined_to (get_or set 0 0)) labels set
 
--- the n sets from number `s` on, of which the first starts at `from`: those that are used
-unfoldable pub sets_joined : (n : ℕ) → (used : List Bool) (ends members : List ℕ) (s from : ℕ) → List ℕ → List ℕ
-sets_joined zero used ends members s from labels = labels
-sets_joined (suc n) used ends members s from labels =
-    sets_joined n used ends members (s + 1) (get_or ends s 0) (set_joined (get_or used s false) members from (get_or ends s 0) labels)
+abbrev pub joined_if : (is_used : Bool) → List ℕ → (set : List ℕ) → List ℕ
+joined_if true labels set = set_joined labels set
+joined_if false labels set = labels
+
+-- the sets in use, of which the first has the number s
+unfoldable pub sets_joined : (used : List Bool) (s : ℕ) → List ℕ → List (List ℕ) → List ℕ
+sets_joined used s labels [] = labels
+sets_joined used s labels (set ∷ sets) = sets_joined used (s + 1) (joined_if (get_or used s false) labels set) sets
 
 -- ---- what the instructions say
 
-abbrev pub own_marked : Nature → List ℕ → List ℕ
-own_marked Nature.Safe labels = labels
-own_marked (Nature.Own g) labels = elim (ltb g 400) [ true ↦ touched labels g | false ↦ labels ]
-own_marked (Nature.Listed s) labels = labels
-own_marked (Nature.Jump p) labels = labels
-own_marked Nature.Check labels = labels
-own_marked Nature.Other labels = labels
+abbrev pub own_marked : List ℕ → Nature → List ℕ
+own_marked labels Nature.Safe = labels
+own_marked labels (Nature.Own g) = elim (ltb g 400) [ true ↦ touched labels g | false ↦ labels ]
+own_marked labels (Nature.Listed s) = labels
+own_marked labels (Nature.Jump p) = labels
+own_marked labels Nature.Check = labels
+own_marked labels Nature.Other = labels
 
-abbrev pub use_marked : Nature → List Bool → List Bool
-use_marked Nature.Safe used = used
-use_marked (Nature.Own g) used = used
-use_marked (Nature.Listed s) used = elim (ltb s 400) [ true ↦ set used s true | false ↦ used ]
-use_marked (Nature.Jump p) used = used
-use_marked Nature.Check used = used
-use_marked Nature.Other used = used
+abbrev pub use_marked : List Bool → Nature → List Bool
+use_marked used Nature.Safe = used
+use_marked used (Nature.Own g) = used
+use_marked used (Nature.Listed s) = elim (ltb s 400) [ true ↦ set used s true | false ↦ used ]
+use_marked used (Nature.Jump p) = used
+use_marked used Nature.Check = used
+use_marked used Nature.Other = used
 
-abbrev pub nature_at : (sizes : List ℕ) → List Line → (at : ℕ) → Nature
-nature_at sizes code at = nature_of (sizes_in sizes) (view (get_or code at (line Instr.End)).instr)
+abbrev pub owns_marked : (size : ℕ → ℕ) → List ℕ → List Instr → List ℕ
+owns_marked size labels code = fold (λ l i. own_marked l (nature_of size (view i))) labels code
 
--- the n instructions from `at` on
-unfoldable pub owns_marked : (n : ℕ) → (sizes : List ℕ) (code : List Line) (at : ℕ) → List ℕ → List ℕ
-owns_marked zero sizes code at labels = labels
-owns_marked (suc n) sizes code at labels = owns_marked n sizes code (at + 1) (own_marked (nature_at sizes code at) labels)
+abbrev pub uses_marked : (size : ℕ → ℕ) → List Bool → List Instr → List Bool
+uses_marked size used code = fold (λ u i. use_marked u (nature_of size (view i))) used code
 
-unfoldable pub uses_marked : (n : ℕ) → (sizes : List ℕ) (code : List Line) (at : ℕ) → List Bool → List Bool
-uses_marked zero sizes code at used = used
-uses_marked (suc n) sizes code at used = uses_marked n sizes code (at + 1) (use_marked (nature_at sizes code at) used)
+-- the labels of a routine's objects
+unfoldable pub labels_of : Program → List ℕ
+labels_of p =
+    sets_joined
+    (uses_marked (size_of p.objects) (replicate 400 false) p.code)
+    0
+    (owns_marked (size_of p.objects) (replicate 400 400) p.code)
+    p.sets
 
 -- ---- numbering the classes
 
--- 1 where x is its own label
-abbrev pub lead : (label x : ℕ) → ℕ
-lead label x = elim (eqb label x) [ true ↦ 1 | false ↦ 0 ]
+-- how many objects are their own label, the lowest of their class
+unfoldable pub classes_in : (labels : List ℕ) → ℕ
+classes_in labels = count_by (λ p. p.1 == p.0) (enumerate_from 0 labels)
 
-abbrev pub leads : (labels : List ℕ) (x : ℕ) → ℕ
-leads labels x = lead (get_or labels x 0) x
+-- the color of x: classes get 2, 3, .. in the order of their lowest objects
+abbrev pub color_by : (labels : List ℕ) (x : ℕ) → ℕ
+color_by labels x =
+    elim (ltb (get_or labels x 0) 400) [ true ↦ 2 + classes_in (take (get_or labels x 0) labels) | false ↦ 0 ]
 
-unfoldable pub leaders : (labels : List ℕ) (n : ℕ) → ℕ
-leaders labels zero = 0
-leaders labels (suc n) = leaders labels n + leads labels n
+-- each label is the lowest object that has it
+pub record Lowest (labels : List ℕ) : Type 0 where
+  pub low : (x : ℕ) → x < 400 → get_or labels x 0 < 400 → get_or labels x 0 ≤ x
+  pub self : (x : ℕ) → x < 400 → get_or labels x 0 < 400 → get_or labels (get_or labels x 0) 0 ≡ get_or labels x 0
 
--- the color of x where `next` is the next class's, from the colors below x
-abbrev pub tint_by : (label : ℕ) (colors : List ℕ) (next x : ℕ) → ℕ
-tint_by label colors next x =
-    elim (eqb label x) [
-      | true ↦ next
-      | false ↦ elim (ltb label 400) [ true ↦ get_or colors label 0 | false ↦ 0 ]
-    ]
+-- ---- the arrays
 
-abbrev pub tint : (labels colors : List ℕ) (next x : ℕ) → ℕ
-tint labels colors next x = tint_by (get_or labels x 0) colors next x
+-- the objects that count, with their colors
+abbrev pub painted : (color : ℕ → ℕ) → Objects → Objects
+painted color o = record { count = o.count; list = tinted color 0 (take o.count o.list) ++ drop o.count o.list }
 
-unfoldable pub numbered_from : (n : ℕ) → (labels : List ℕ) (x next : ℕ) → (colors : List ℕ) → List ℕ
-numbered_from zero labels x next colors = colors
-numbered_from (suc n) labels x next colors =
-    numbered_from n labels (x + 1) (next + leads labels x) (set colors x (tint labels colors next x))
+-- sets that stand among the members one after the other, the first of them from `from` on
+unfoldable pub cut : (from : ℕ) → (ends members : List ℕ) → List (List ℕ)
+cut from [] members = []
+cut from (end ∷ ends) members = slice_range members from end ∷ cut end ends members
 
--- ---- the whole
+abbrev pub listed : Sets → List (List ℕ)
+listed s = cut 0 (take s.count s.ends) s.members
 
--- what every routine that was read has
-pub record InRange (l : Loaded) : Type 0 where
-  pub objects : l.objects ≤ 400
-  pub sets : l.sets ≤ 400
-  pub lines : l.lines ≤ 2000
-  pub ends : (s : ℕ) → get_or l.ends s 0 ≤ 16384
-  pub members : (i : ℕ) → get_or l.members i 0 < 400
+-- what the sets of every routine that was read have
+pub record InRange (s : Sets) : Type 0 where
+  pub count : s.count ≤ 400
+  pub rising : (k : ℕ) → k + 1 < s.count → get_or s.ends k 0 ≤ get_or s.ends (k + 1) 0
+  pub ends : (k : ℕ) → get_or s.ends k 0 ≤ 16384
+  pub members : (i : ℕ) → get_or s.members i 0 < 400
 
-abbrev pub marks_in : Loaded → List ℕ
-marks_in l = owns_marked l.lines l.sizes l.code 0 (replicate 400 400)
-
-abbrev pub used_in : Loaded → List Bool
-used_in l = uses_marked l.lines l.sizes l.code 0 (replicate 400 false)
-
-abbrev pub labels_in : Loaded → List ℕ
-labels_in l = sets_joined l.sets (used_in l) l.ends l.members 0 0 (marks_in l)
-
-abbrev pub colors_in : Loaded → List ℕ
-colors_in l = numbered_from l.objects (labels_in l) 0 2 (replicate 400 0)
-
-abbrev pub held_with : List ℕ → Loaded → Loaded
-held_with colors l =
+-- the program that arrays hold
+abbrev pub program_in : Loaded → Program
+program_in l =
     record {
-      outcome = l.outcome;
-      objects = l.objects;
-      kinds = l.kinds;
-      sizes = l.sizes;
-      colors = colors;
-      sets = l.sets;
-      ends = l.ends;
-      members = l.members;
-      lines = l.lines;
-      code = l.code;
+      objects = take l.objects.count l.objects.list;
+      sets = listed l.sets;
+      code = take l.code.count l.code.list;
     }
 
-unfoldable pub painting : Loaded → Loaded
-painting l =
-    elim (ltb 254 (leaders (labels_in l) l.objects)) [
-      | true ↦ held (Reading.refused (refusal Cause.ManyClasses 0))
-      | false ↦ held_with (colors_in l) l
-    ]
+-- a routine that was read, whose arrays are so in range
+pub record IsRead (l : Loaded) : Type 0 where
+  pub file : List ℕ
+  pub reading : ◌≡◌ {A = Result Loaded Refusal} (Ok l) (held (read_file 1 file))
+  pub objects : l.objects.count ≤ 400
+  pub sets : InRange l.sets
+  pub code : l.code.count ≤ 2000

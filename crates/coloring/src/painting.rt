@@ -1,56 +1,47 @@
 // The colors of a routine's objects, by the labels of their classes.
-ghost use Rattle.std.specs.Prelude.{◌≡◌, ◌≤◌, replicate};
-ghost use Rattle.coloring.specs.Labels.{lead, leaders, tint_by, numbered_from};
+ghost use Rattle.std.specs.Prelude.{◌≡◌, ◌≤◌, take, get_or};
+ghost use Rattle.files.specs.Held.{blank};
+ghost use Rattle.coloring.specs.Labels.{classes_in, color_by, Lowest, painted};
 
-// 1 where an object is the lowest of its class.
-fn leader(label: u16, x: usize) -> u16
-    ensures { result ≡ lead label x }
+use files::Objects;
+use opcodes::Object;
+
+// How many classes there are: as many as objects that are the lowest of theirs.
+#[tactic(auto, unfolding(crate::specs::Labels::classes_in))]
+pub(super) fn count_classes(labels: &[u16]) -> usize
+    ensures { result ≡ classes_in labels.now }
 {
-    if label as usize == x { 1 } else { 0 }
+    labels
+        .iter()
+        .enumerate()
+        .filter(|(x, label)| **label as usize == *x)
+        .count()
 }
 
-// How many classes the first `objects` objects have.
-#[tactic(auto, using(crate::proofs::Turns::lead_most, crate::proofs::Turns::leaders_most, crate::proofs::Turns::leaders_turn), unfolding(crate::specs::Labels::leaders))]
-pub(super) fn count_classes(labels: &[u16; 400], objects: usize) -> u16
-    requires { objects ≤ 400 }
-    ensures { result ≡ leaders labels.now objects }
+// The color of an object, and 0 where there is none.
+fn color_at(objects: &[Object], x: usize) -> u8
+    ensures { result ≡ (get_or objects.now x blank).color }
 {
-    let mut classes = 0;
-    let mut x = 0;
-    while x < objects {
-        classes = classes + leader(labels[x], x);
-        x += 1;
-    }
-    classes
+    objects.get(x).map_or(0, |object| object.color)
 }
 
-// The color of object `x`: the next one for the lowest object of a class, that of the lowest object for
-// any other of the class, and 0 for a safe object.
-fn color_of(colors: &[u8; 400], label: u16, x: usize, next: u16) -> u8
-    requires { label ≡ x → next ≤ 255 }
-    ensures { result ≡ tint_by label colors.now next x }
+// Gives the objects their colors, class after class in the order of the lowest objects: the next color to the
+// lowest object of a class, that of the lowest to any other of the class, and 0 to a safe object.
+#[tactic(auto, using(crate::proofs::Numbered::classes_room))]
+pub(super) fn give_colors(objects: &mut Objects, labels: &[u16; 400])
+    requires few { objects.old.count ≤ 400 }
+    requires classes { classes_in (take objects.old.count labels.now) ≤ 254 }
+    requires lowest { Lowest labels.now }
+    ensures { objects.new ≡ painted (color_by labels.now) objects.old }
 {
-    let lowest = label as usize;
-    if lowest == x {
-        return next as u8;
+    let mut next = 2u16;
+    for x in 0..objects.count {
+        let lowest = labels[x] as usize;
+        if lowest == x {
+            objects.list[x].color = next as u8;
+            next += 1;
+        } else {
+            objects.list[x].color = color_at(&objects.list, lowest);
+        }
     }
-    if lowest < 400 { colors[lowest] } else { 0 }
-}
-
-// The colors of the first `objects` objects, class after class in the order of the lowest objects.
-#[tactic(auto, using(crate::proofs::Turns::lead_most, crate::proofs::Turns::leaders_most, crate::proofs::Turns::leaders_turn, crate::proofs::Turns::leaders_rise, crate::proofs::Turns::numbered_turn, crate::proofs::Turns::numbered_done), unfolding(crate::specs::Labels::leaders))]
-pub(super) fn colors_of(labels: &[u16; 400], objects: usize) -> [u8; 400]
-    requires { (objects ≤ 400) × (leaders labels.now objects ≤ 254) }
-    ensures { result ≡ numbered_from objects labels.now 0 2 (replicate 400 0) }
-{
-    let mut colors = [0; 400];
-    let mut next = 2;
-    let mut x = 0;
-    while x < objects {
-        let label = labels[x];
-        colors[x] = color_of(&colors, label, x, next);
-        next = next + leader(label, x);
-        x += 1;
-    }
-    colors
 }

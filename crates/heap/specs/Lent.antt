@@ -8,11 +8,12 @@ use Rattle.heap.specs.Heap.{Alloc, Free, alloc, free, paint_made, paint_freed, e
 
 -- ---- the answers, by 01's numbers and values; 0 where the run goes on
 
--- "11 | memory or table not of its exact length", "38 unsound heap", or the address of the body, if there is one
+-- the address of the body, if there is one
 abbrev pub made_for : (bodies : List ℕ) → Option ℕ
 made_for [] = None
 made_for (body ∷ none) = Some body
 
+-- "11 | memory or table not of its exact length", "38 unsound heap"
 abbrev pub allocation_for : (number : ℕ) (bodies : List ℕ) → Result (Option ℕ) HeapError
 allocation_for number bodies =
     elim (eqb number 11) [

@@ -20,6 +20,7 @@ pub trait Width {
     fn write(part: &mut [u8], value: u32)
         ensures { part.new ≡ stored bytes part.old 0 value };
 
+    // One byte to four: they touch at most two slots.
     ghost few: { (1 ≤ bytes) × (bytes ≤ 4) };
 }
 

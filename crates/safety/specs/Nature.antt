@@ -1,5 +1,5 @@
 -- What an instruction is, as the contract of `by_opcode` says it; no demand cites it.
-use Rattle.std.specs.Prelude.{ℕ, true, false, List, get_or, ltb}
+use Rattle.std.specs.Prelude.{ℕ, true, false}
 use Rattle.opcodes.specs.View.{Aim, in_global, at_temp, View, act, jump, jump_if, store, check, bytes}
 use Rattle.safety.specs.declared.Nature.{Nature}
 use Rattle.safety.specs.Unsafe.{safe_put}
@@ -21,7 +21,3 @@ nature_of size (jump t) = Nature.Jump t
 nature_of size (jump_if a t) = Nature.Jump t
 nature_of size (store aim b s) = store_nature size aim s
 nature_of size (check aim c) = Nature.Check
-
--- the sizes of an array of 400, and 0 past its end
-abbrev pub sizes_in : List ℕ → ℕ → ℕ
-sizes_in sizes g = elim (ltb g 400) [ true ↦ get_or sizes g 0 | false ↦ 0 ]

@@ -7,11 +7,12 @@
 ghost use Rattle.std.specs.Prelude.{◌≡◌, [], ◌∷◌};
 ghost use Rattle.opcodes.specs.Table.{make};
 ghost use Rattle.opcodes.specs.View.{view};
-ghost use Rattle.safety.specs.Nature.{put_nature, nature_of, sizes_in};
+ghost use Rattle.safety.specs.Unsafe.{size_of};
+ghost use Rattle.safety.specs.Nature.{put_nature, nature_of};
 
 use instructions::parts_of;
 use opcodes::extent::extent_of;
-use opcodes::{Instr, Parts};
+use opcodes::{Instr, Object};
 
 // What an instruction is: a store, and of which kind, or something else.
 #[derive(Clone, Copy)]
@@ -28,8 +29,7 @@ pub enum Nature {
     Other,
 }
 
-// A PUT of `bytes` bytes at byte `k` of global `g`: safe where its last byte lies inside the size
-// rounded up to eight.
+// A PUT of `bytes` bytes at byte `k` of global `g`: safe where its last byte lies inside the extent.
 fn put(g: u32, k: u32, bytes: u32, size: u16) -> Nature
     ensures { result ≡ put_nature size g k bytes }
 {
@@ -56,12 +56,14 @@ pub fn by_opcode(opcode: u32, x: u32, y: u32, z: u32, w: u32, size: u16) -> Natu
     }
 }
 
-// What an instruction is, over the sizes of the objects.
+// What an instruction is, over the objects of its file.
 #[tactic(auto, using(crate::proofs::Natures::nature_whole))]
-pub fn nature_of(i: Instr, sizes: &[u16; 400]) -> Nature
-    ensures { result ≡ nature_of (sizes_in sizes.now) (view i) }
+pub fn nature_of(i: Instr, objects: &[Object]) -> Nature
+    ensures { result ≡ nature_of (size_of objects.now) (view i) }
 {
-    let Parts { op, x, y, z, w } = parts_of(i);
-    let size = sizes.get(x as usize).copied().unwrap_or(0);
-    by_opcode(op, x, y, z, w, size)
+    let parts = parts_of(i);
+    let size = objects
+        .get(parts.x as usize)
+        .map_or(0, |object| object.size);
+    by_opcode(parts.op, parts.x, parts.y, parts.z, parts.w, size)
 }

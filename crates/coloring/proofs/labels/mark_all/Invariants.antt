@@ -1,14 +1,10 @@
--- `mark_all` meets its contract. The loop's invariant: what is left to mark from here is all that was to be marked.
-use Prim.Native.Nat.{◌≤◌, ◌-◌}
-use mathlib.Core.Path.{◌≡◌}
+-- `mark_all` meets its contract. The loop's invariant: what the instructions before the index say is marked.
+use Rattle.std.proofs.Common.{◌≡◌, take}
+use Rattle.safety.specs.Unsafe.{size_of}
 use Rattle.coloring.specs.Labels.{owns_marked, uses_marked}
 use Rattle.coloring.proofs.labels.mark_all.Given as goal
 
-abbrev pub invariant-loop-at : goal.invariant-loop-at
-invariant-loop-at l =
-    (l.at ≤ l.lines)
-    × (owns_marked (l.lines - l.at) l.sizes l.code l.at l.labels ≡ owns_marked l.lines l.sizes l.code 0 l.initial.labels)
-    × (uses_marked (l.lines - l.at) l.sizes l.code l.at l.used ≡ uses_marked l.lines l.sizes l.code 0 l.initial.used)
-
-abbrev pub decreases-loop-at : goal.decreases-loop-at
-decreases-loop-at l = l.lines - l.at
+abbrev pub invariant-loop-instr : goal.invariant-loop-instr
+invariant-loop-instr l =
+    (l.labels ≡ owns_marked (size_of l.objects) l.initial.labels (take l.instr-index l.code))
+    × (l.used ≡ uses_marked (size_of l.objects) l.initial.used (take l.instr-index l.code))

@@ -1,8 +1,8 @@
--- `relabel` meets its contract. The loop's invariant: the labels before `i` are renamed.
-use Prim.Native.Nat.{◌≤◌}
-use mathlib.Core.Path.{◌≡◌}
-use Rattle.coloring.specs.Labels.{relabelled}
+-- `relabel` meets its contract. The loop's invariant: the labels before the index are renamed.
+use Rattle.std.proofs.Common.{◌≡◌, ◌++◌, map, take, drop}
+use Rattle.coloring.specs.Labels.{renamed}
 use Rattle.coloring.proofs.labels.relabel.Given as goal
 
-abbrev pub invariant-loop-i : goal.invariant-loop-i
-invariant-loop-i l = (l.i ≤ 400) × (l.labels ≡ relabelled l.from l.to l.i l.initial.labels)
+abbrev pub invariant-loop-label : goal.invariant-loop-label
+invariant-loop-label l =
+    l.labels ≡ map (renamed l.from l.to) (take l.label-index l.initial.labels) ++ drop l.label-index l.initial.labels

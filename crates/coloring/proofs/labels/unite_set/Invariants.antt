@@ -1,12 +1,8 @@
--- `unite_set` meets its contract. The loop's invariant: what is left to join from here is all that was to be joined.
-use Prim.Native.Nat.{◌≤◌, ◌-◌}
-use mathlib.Core.Path.{◌≡◌}
-use Rattle.coloring.specs.Labels.{span_joined}
+-- `unite_set` meets its contract. The loop's invariant: the members before the index are joined.
+use Rattle.std.proofs.Common.{◌≡◌, take}
+use Rattle.std.specs.List.{fold}
+use Rattle.coloring.specs.Labels.{joined_to}
 use Rattle.coloring.proofs.labels.unite_set.Given as goal
 
-abbrev pub invariant-loop-i : goal.invariant-loop-i
-invariant-loop-i l =
-    (l.i ≤ l.to) × (span_joined (l.to - l.i) l.members l.first l.i l.labels ≡ span_joined (l.to - l.from) l.members l.first l.from l.initial.labels)
-
-abbrev pub decreases-loop-i : goal.decreases-loop-i
-decreases-loop-i l = l.to - l.i
+abbrev pub invariant-loop-x : goal.invariant-loop-x
+invariant-loop-x l = l.labels ≡ fold (joined_to l.first) l.initial.labels (take l.x-index l.set)
