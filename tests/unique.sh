@@ -29,21 +29,28 @@ contracts() { # FILE
             }
             return ""
         }
-        /^ *pub (extern "C" )?fn / { reading = 1; head = "" }
+        # The functions of a public trait are public, and have no body there.
+        /^pub trait / { trait = 1 }
+        /^}/ { trait = 0 }
+        /^ *pub (extern "C" )?fn / || (trait && /^ *fn /) { reading = 1; head = "" }
         reading && /^ *\{ *$/ { reading = 0; tell() }
         reading { head = head " " $0 }
+        reading && trait && /;$/ { reading = 0; tell() }
         function tell(   name, list, n, i, part, names, bound, many, clauses, clause, promise, text) {
             name = head
-            sub(/^ *pub (extern "C" )?fn /, "", name)
+            sub(/^ *(pub )?(extern "C" )?fn /, "", name)
             sub(/[^a-z0-9_].*/, "", name)
             text = head
             sub(/ ensures .*/, "", text)
             if (text ~ /->/) { bound = "result"; many++ }
+            # a width is a type, of which clauses name the number of bytes
+            if (trait || head ~ /<W: Width>/) names = "bytes"
             list = between(head, "(", ")")
             n = split(list, part, ",")
             for (i = 1; i <= n; i++) {
-                if (part[i] !~ /:/) continue
                 text = part[i]
+                if (text ~ /^ *self *$/) text = "self:"
+                if (text !~ /:/) continue
                 sub(/:.*/, "", text)
                 gsub(/ /, "", text)
                 names = names (names == "" ? "" : " ") text
@@ -61,7 +68,7 @@ contracts() { # FILE
             if (many > 1) bound = "(" bound ")"
             print name "|" names "|λ " bound ". " promise
         }' "$1" |
-        sed -E "s/(^|[ (])([a-z0-9_]+)\.new/\1\2'/g; s/(^|[ (])([a-z0-9_]+)\.(now|old)/\1\2/g; s/([a-z0-9_]+)\.entry/\1/g
+        sed -E "s/W\.bytes/bytes/g; s/(^|[ (])([a-z0-9_]+)\.new/\1\2'/g; s/(^|[ (])([a-z0-9_]+)\.(now|old)/\1\2/g; s/([a-z0-9_]+)\.entry/\1/g
             s/  +/ /g"
 }
 
@@ -98,6 +105,8 @@ functions=0
 for root in crates/*/src/lib.rt; do
     crate=${root#crates/}
     crate=${crate%%/*}
+    # what comes in from outside is nothing that a contract can name (docs/DECISIONS.md, D-64)
+    [ "$crate" = input ] && continue
     while IFS='|' read -r function names promise; do
         # controller_c hands on a function of controller, with its clauses, under the name that hosts link
         case $crate in *_c) ;; *) functions=$((functions + 1)) ;; esac

@@ -29,29 +29,11 @@ pub(crate) fn filled_numbers(fill: u8) -> [u32; 1024]
     [number; 1024]
 }
 
-// How many bytes at the front of an array a case asks for. The protocol keeps it within the array.
-
-pub(crate) fn bytes_within(n: u32, bytes: &[u8]) -> usize
-    ensures { IsPrefixLen result bytes.now }
+// How many elements at the front of an array a case asks for. The protocol keeps it within the array.
+pub(crate) fn within<T>(n: u32, array: &[T]) -> usize
+    ensures { IsPrefixLen result array.now }
 {
-    let count = n as usize;
-    if count <= bytes.len() {
-        count
-    } else {
-        bytes.len()
-    }
-}
-
-// The same for numbers.
-pub(crate) fn numbers_within(n: u32, numbers: &[u32]) -> usize
-    ensures { IsPrefixLen result numbers.now }
-{
-    let count = n as usize;
-    if count <= numbers.len() {
-        count
-    } else {
-        numbers.len()
-    }
+    array.len().min(n as usize)
 }
 
 // A length or place as a word. None of them reaches 2^32.

@@ -2,122 +2,79 @@
 // file's order.
 use crate::digest::{EMPTY, joined};
 use crate::lent::word;
-use files::{Line, Loaded};
+use files::{Code, Loaded, Objects, Sets};
 use instructions::parts_of;
-use opcodes::Parts;
-
-fn wide(n: u16) -> u32 {
-    n as u32
-}
+use opcodes::{Object, Parts};
 
 // How many operands an opcode has in a version: a WRITE names its set in version 1 alone.
-fn operands_of(opcode: u32, version: u8) -> u8 {
+fn operands_of(opcode: u32, version: u32) -> usize {
     match opcode {
         0 => 0,
         12 | 15 | 16 | 17 => 1,
         1 | 2 | 6 | 7 | 13 | 18 | 19 => 2,
-        10 | 11 => if version == 1 { 3 } else { 2 },
+        10 | 11 if version != 1 => 2,
         _ => 3,
     }
 }
 
 // An object: its kind, for a global its size, in version 2 its color.
-fn object(held: u32, version: u8, kind: u8, size: u16, color: u8) -> u32 {
-    let mut h = joined(held, kind as u32);
-    if kind == 0 {
-        h = joined(h, wide(size));
+fn object(held: u32, version: u32, object: &Object) -> u32 {
+    let mut h = joined(held, u32::from(object.kind));
+    if object.kind == 0 {
+        h = joined(h, u32::from(object.size));
     }
     if version == 2 {
-        h = joined(h, color as u32);
+        h = joined(h, u32::from(object.color));
     }
     h
 }
 
-fn objects<'a>(
-    held: u32,
-    version: u8,
-    kinds: &'a [u8; 400],
-    sizes: &'a [u16; 400],
-    colors: &'a [u8; 400],
-    count: usize,
-) -> u32 {
-    let mut h = joined(held, word(count));
-    let mut g = 0;
-    while g < 400 && g < count {
-        h = object(h, version, kinds[g], sizes[g], colors[g]);
-        g += 1;
-    }
-    h
+fn objects(held: u32, version: u32, objects: &Objects) -> u32 {
+    let counted = joined(held, word(objects.count));
+    objects
+        .list
+        .iter()
+        .take(objects.count)
+        .fold(counted, |h, o| object(h, version, o))
 }
 
-// The members of one set, which stand from a place on up to another.
-fn set(held: u32, members: &[u16; 16384], from: u16, to: u16) -> u32 {
-    let end = to as usize;
-    let mut h = held;
-    let mut i = from as usize;
-    while i < 16384 && i < end {
-        h = joined(h, wide(members[i]));
-        i += 1;
-    }
-    h
-}
-
-// Each set: its count and its members.
-fn sets<'a>(held: u32, ends: &'a [u16; 400], members: &'a [u16; 16384], count: usize) -> u32 {
-    let mut h = joined(held, word(count));
+// Each set: its count and its members, which stand from the end of the set before it up to its own.
+fn sets(held: u32, sets: &Sets) -> u32 {
+    let mut h = joined(held, word(sets.count));
     let mut from = 0u16;
-    let mut s = 0;
-    while s < 400 && s < count {
-        let to = ends[s];
-        h = joined(h, wide(to.wrapping_sub(from)));
-        h = set(h, members, from, to);
+    for &to in sets.ends.iter().take(sets.count) {
+        h = joined(h, u32::from(to.wrapping_sub(from)));
+        let set = sets.members.get(usize::from(from)..usize::from(to));
+        for &member in set.unwrap_or(&[]) {
+            h = joined(h, u32::from(member));
+        }
         from = to;
-        s += 1;
     }
     h
 }
 
 // An instruction: its opcode and its operands.
-fn instruction(held: u32, version: u8, parts: Parts) -> u32 {
-    let operands = operands_of(parts.op, version);
-    let mut h = joined(held, parts.op);
-    if 0 < operands {
-        h = joined(h, parts.x);
-    }
-    if 1 < operands {
-        h = joined(h, parts.y);
-    }
-    if 2 < operands {
-        h = joined(h, parts.z);
-    }
-    h
+fn instruction(held: u32, version: u32, parts: Parts) -> u32 {
+    let operands = [parts.x, parts.y, parts.z];
+    operands
+        .iter()
+        .take(operands_of(parts.op, version))
+        .fold(joined(held, parts.op), |h, &n| joined(h, n))
 }
 
-fn instructions(held: u32, version: u8, code: [Line; 2000], count: usize) -> u32 {
-    let mut h = joined(held, word(count));
-    let mut at = 0;
-    while at < 2000 && at < count {
-        let line = code[at];
-        let instr = line.instr;
-        h = instruction(h, version, parts_of(instr));
-        at += 1;
+fn instructions(held: u32, version: u32, code: &Code) -> u32 {
+    let counted = joined(held, word(code.count));
+    code.list
+        .iter()
+        .take(code.count)
+        .fold(counted, |h, &instr| instruction(h, version, parts_of(instr)))
+}
+
+// The file of a version: objects, in version 1 sets, instructions.
+pub(crate) fn digest_of(version: u32, held: &Loaded) -> u32 {
+    let mut h = objects(joined(EMPTY, version), version, &held.objects);
+    if version == 1 {
+        h = sets(h, &held.sets);
     }
-    h
-}
-
-// Version 1: objects, sets, instructions.
-pub(crate) fn digest_of_version_1(p: Loaded) -> u32 {
-    let start = joined(EMPTY, 1);
-    let named = objects(start, 1, &p.kinds, &p.sizes, &p.colors, p.objects);
-    let listed = sets(named, &p.ends, &p.members, p.sets);
-    let code = p.code;
-    instructions(listed, 1, code, p.lines)
-}
-
-// Version 2: objects with their colors, instructions.
-pub(crate) fn digest_of_version_2(p: Loaded) -> u32 {
-    let start = joined(EMPTY, 2);
-    let named = objects(start, 2, &p.kinds, &p.sizes, &p.colors, p.objects);
-    let code = p.code;
-    instructions(named, 2, code, p.lines)
+    instructions(h, version, &held.code)
 }

@@ -9,12 +9,12 @@ mod lent; // lent.rt: the part of an array that a case asks for
 mod listing; // listing.rt: the digest of the numbers that a file was read as
 mod runs; // runs.rt: machine and controller
 
-use case::{Case, case_in, put_words, read_front, read_inputs};
+use case::{Case, case_in, read_front, read_inputs};
 use layers::{
     color, instrument_file, read_one_number, read_version_1, read_version_2, write_one_number,
     write_version_2,
 };
-use lent::{bytes_within, filled_numbers, filled_room, numbers_within};
+use lent::{filled_numbers, filled_room, within};
 use runs::run_case;
 use std::io::{Read, Write};
 
@@ -36,7 +36,10 @@ fn answer_to(case: Case, file: &[u8], input: &[u32]) -> [u32; 8] {
 // Writes an answer and says whether it was taken.
 fn write_answer(output: &mut impl Write, words: [u32; 8]) -> bool {
     let mut bytes = [0u8; 32];
-    put_words(&mut bytes, words);
+    let (places, _) = bytes.as_chunks_mut::<4>();
+    for (place, word) in places.iter_mut().zip(words) {
+        *place = word.to_le_bytes();
+    }
     output.write_all(&bytes).is_ok()
 }
 
@@ -50,8 +53,8 @@ fn answer_case(input: &mut impl Read, output: &mut impl Write, case: Case) -> bo
     if !read_inputs(input, case.inputs, &mut numbers) {
         return false;
     }
-    let length = bytes_within(case.file, &file);
-    let count = numbers_within(case.inputs, &numbers);
+    let length = within(case.file, &file);
+    let count = within(case.inputs, &numbers);
     write_answer(output, answer_to(case, &file[..length], &numbers[..count]))
 }
 

@@ -2,28 +2,19 @@
 // room after it.
 use crate::case::Case;
 use crate::digest::{digest_bytes, digest_numbers};
-use crate::lent::{
-    bytes_within, filled_memory, filled_numbers, filled_table, low_word, numbers_within,
-};
+use crate::lent::{filled_memory, filled_numbers, filled_table, low_word, within};
 use stops::{Run, numbers_of};
 
-fn recorded<'a>(run: Run, memory: &'a [u8], table: &'a [u8], room: &'a [u32]) -> [u32; 8] {
-    let five = numbers_of(run);
-    let number = low_word(five[0]);
-    let place = low_word(five[1]);
-    let steps = low_word(five[2]);
-    let out = low_word(five[3]);
-    let taken = low_word(five[4]);
-    let kept = digest_bytes(memory);
-    let colors = digest_bytes(table);
+fn recorded(run: Run, memory: &[u8], table: &[u8], room: &[u32]) -> [u32; 8] {
+    let [number, place, steps, out, taken] = numbers_of(run).map(low_word);
     [
         number,
         place,
         steps,
         out,
         taken,
-        kept,
-        colors,
+        digest_bytes(memory),
+        digest_bytes(table),
         digest_numbers(room),
     ]
 }
@@ -61,9 +52,9 @@ pub(crate) fn run_case(case: Case, file: &[u8], input: &[u32]) -> [u32; 8] {
     let mut memory = filled_memory(fill);
     let mut table = filled_table(fill);
     let mut room = filled_numbers(fill);
-    let bytes = bytes_within(case.memory, &memory);
-    let slots = bytes_within(case.table, &table);
-    let count = numbers_within(case.room, &room);
+    let bytes = within(case.memory, &memory);
+    let slots = within(case.table, &table);
+    let count = within(case.room, &room);
     run_in(
         case,
         file,

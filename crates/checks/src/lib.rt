@@ -5,18 +5,11 @@
 
 ghost use Rattle.std.specs.Prelude.{◌≡◌, get_or};
 ghost use Rattle.opcodes.specs.View.{view};
-ghost use Rattle.checks.specs.Held.{set_start, first_in, check_for, as_list, check_in};
+ghost use Rattle.checks.specs.Held.{set_start, first_in, color_at, check_for, as_list, check_in};
 ghost use Rattle.instructions.specs.Moved.{moved};
 
-use opcodes::Instr;
+use opcodes::{Instr, Object};
 use safety::{Nature, nature_of};
-
-// What stands directly before the copy of an instruction.
-#[derive(Clone, Copy)]
-pub enum Before {
-    Nothing,
-    Check(Instr),
-}
 
 // Where set `s` starts among the members: behind the set before it.
 fn start_of(s: usize, ends: &[u16]) -> usize
@@ -25,32 +18,22 @@ fn start_of(s: usize, ends: &[u16]) -> usize
     if s == 0 {
         return 0;
     }
-    let last = s - 1;
-    if last < ends.len() {
-        return ends[last] as usize;
-    }
-    0
+    ends.get(s - 1).map_or(0, |end| *end as usize)
 }
 
 // The lowest object of set `s`, or 0 past the members.
-fn first_of<'a>(s: usize, ends: &'a [u16], members: &'a [u16]) -> usize
+fn first_of(s: usize, ends: &[u16], members: &[u16]) -> usize
     ensures { result ≡ first_in ends.now members.now s }
 {
     let at = start_of(s, ends);
-    if at < members.len() {
-        return members[at] as usize;
-    }
-    0
+    members.get(at).map_or(0, |member| *member as usize)
 }
 
 // The color of an object, 0 past the objects.
-fn color_of(x: usize, colors: &[u8]) -> u8
-    ensures { result ≡ get_or colors.now x 0 }
+fn color_of(x: usize, objects: &[Object]) -> u8
+    ensures { result ≡ color_at objects.now x }
 {
-    if x < colors.len() {
-        return colors[x];
-    }
-    0
+    objects.get(x).map_or(0, |object| object.color)
 }
 
 // The check of a store for a color: the same aim, and the same width.
@@ -70,11 +53,7 @@ fn check_of(i: Instr, color: u8) -> Instr
 fn place_of(t: u16, places: &[u16]) -> u16
     ensures { result ≡ get_or places.now t 0 }
 {
-    let at = t as usize;
-    if at < places.len() {
-        return places[at];
-    }
-    0
+    places.get(t as usize).copied().unwrap_or(0)
 }
 
 // The copy of an instruction: a jump has its new target, and a WRITE has no set.
@@ -90,23 +69,14 @@ pub fn copy_of(i: Instr, places: &[u16]) -> Instr
     }
 }
 
-// The check that an unsafe instruction has before it.
-pub fn check_before<'a>(
-    i: Instr,
-    sizes: &'a [u16; 400],
-    colors: &'a [u8],
-    ends: &'a [u16],
-    members: &'a [u16],
-) -> Before
-    ensures { as_list result ≡ check_in sizes.now colors.now ends.now members.now i }
+// The check that an unsafe instruction has before it, over the objects and sets of its file.
+#[tactic(auto, unfolding(crate::specs::Held::check_in))]
+pub fn check_before(i: Instr, objects: &[Object], ends: &[u16], members: &[u16]) -> Option<Instr>
+    ensures { as_list result ≡ check_in objects.now ends.now members.now i }
 {
-    let nature = nature_of(i, sizes);
-    match nature {
-        Nature::Own(g) => Before::Check(check_of(i, color_of(g, colors))),
-        Nature::Listed(s) => Before::Check(check_of(
-            i,
-            color_of(first_of(s, ends, members), colors),
-        )),
-        _ => Before::Nothing,
+    match nature_of(i, objects) {
+        Nature::Own(g) => Some(check_of(i, color_of(g, objects))),
+        Nature::Listed(s) => Some(check_of(i, color_of(first_of(s, ends, members), objects))),
+        _ => None,
     }
 }

@@ -6,21 +6,20 @@
 use Prim.Native.Nat.{ℕ, zero, suc, ◌+◌, ◌≤◌, ◌<◌}
 use mathlib.Core.Path.{◌≡◌, refl, sym, ap, ◌∙◌, subst}
 use mathlib.Core.Bool.{Bool, true, false}
+use mathlib.Core.Logic.{◌⊎◌, inl, inr}
 use mathlib.Core.List.{List, [], ◌∷◌}
 use native.Mathlib.Omega.{arith}
 use lib.ListN.{length}
 use lib.Dec.{leb, eqb}
 use borrow.Author.Tests.{le-leb, lt-leb, eq-eqb, ne_eqb, leb-true}
 use Rattle.opcodes.specs.View.{extent}
-use Rattle.heap.specs.declared.Search.{Search}
-use Rattle.heap.specs.declared.Allocation.{Allocation}
+use Rattle.std.specs.Prelude.{Result, Ok, Err, Option, None}
+use Rattle.heap.specs.declared.HeapError.{HeapError}
 use Rattle.memory.specs.Memory.{memory_size, table_size, exact, number_at}
 use Rattle.heap.specs.Heap.{Block, Alloc, is_free, end_slot, heap_start, block_at, sound, Walk, unsound, blocks, with_block, walk_from, walk, take_block, first_fit, alloc_in, alloc}
-use Rattle.heap.specs.Lent.{after_alloc, allocated}
+use Rattle.heap.specs.Lent.{After, after_alloc, allocated}
 use Rattle.heap.specs.Search.{first_of, found_in, fit_in, Fitting}
-use Rattle.heap.proofs.Blocks.{Same, same_as}
 use Rattle.heap.proofs.Exact.{allocated_exact}
-use Rattle.heap.proofs.Taking.{Taken}
 use Rattle.heap.proofs.Walks.{Sound, sound_says, next_of}
 
 -- a header that was found stays
@@ -95,89 +94,77 @@ module _ (m : List ℕ) (want : ℕ) where
 
 -- ---- what ALLOC answers
 
--- what a header that was found says: there is none, or its block is taken
-pub data Found (m t : List ℕ) (size site color want header : ℕ) : Type 0 where
-  nothing : header ≡ 0 → Same Allocation.Nothing m t (allocated m t size site color) → Found m t size site color want header
-  fitting : (header ≡ 0 → ⊥) → Fitting m t header want
-      → ((body : ℕ) (m' t' : List ℕ) → Taken m t color want (site + 1) header body m' t' → Same (Allocation.Made body) m' t'
-      (allocated m t size site color))
-      → Found m t size site color want header
+module _ (m : List ℕ) (want header : ℕ) (f : Ok header ≡ fit_in 0 want (walk m)) where
+  -- what the loop found stands in the walk
+  found : (bs : List Block) × ((walk m ≡ blocks bs) × ((header ≡ found_in 0 want bs) × Fits m want bs))
+  found = go (walk m) refl f (fits_walk m want 1792 heap_start (omega arith))
+    where
+      go : (w : Walk) → walk m ≡ w → Ok header ≡ fit_in 0 want w → FitsIn m want w
+          → (bs : List Block) × ((walk m ≡ blocks bs) × ((header ≡ found_in 0 want bs) × Fits m want bs))
+      go unsound q f k = cc
+      go (blocks bs) q f k = (bs, (q, (cc, k)))
 
-module _ {m t : List ℕ} {size site color want header : ℕ} where
-  pub found_none : Found m t size site color want header → header ≡ 0 → Same Allocation.Nothing m t (allocated m t size site color)
-  found_none (nothing z e) h = e
-  found_none (fitting some k made) h = absurd (some h)
+  pub found_fits : (t : List ℕ) → length m ≡ memory_size → length t ≡ table_size → (header ≡ 0 → ⊥) → Fitting m t header want
+  found_fits t hm ht some = go found.1.1.0 found.1.1.1
+    where
+      go : {bs : List Block} → header ≡ found_in 0 want bs → Fits m want bs → Fitting m t header want
+      go e (none z n) = absurd (some (e ∙ z))
+      go e (one h z n k) = subst (λ x. Fitting m t x want) (sym (e ∙ z)) (record { memory = hm; table = ht; ends = k.ends; holds = k.holds })
 
-  pub found_fits : Found m t size site color want header → (header ≡ 0 → ⊥) → Fitting m t header want
-  found_fits (nothing z e) h = absurd (h z)
-  found_fits (fitting some k made) h = k
-
-  pub found_made : Found m t size site color want header → (header ≡ 0 → ⊥)
-      → (body : ℕ) (m' t' : List ℕ) → Taken m t color want (site + 1) header body m' t' → Same (Allocation.Made body) m' t'
-      (allocated m t size site color)
-  found_made (nothing z e) h = absurd (h z)
-  found_made (fitting some k made) h = made
+-- the answer, and what memory and table hold afterwards
+abbrev after : (answer : Result (Option ℕ) HeapError) → (memory table : List ℕ) → After (Result (Option ℕ) HeapError)
+after answer m t = record { answer = answer; memory = m; table = t }
 
 module _ (m t : List ℕ) (size site color : ℕ) where
-  pub wrong_memory : (length m ≡ memory_size → ⊥) → Same Allocation.WrongLength m t (allocated m t size site color)
+  pub wrong_length : (length m ≡ memory_size → ⊥) ⊎ ((length m ≡ memory_size) × (length t ≡ table_size → ⊥))
+      → allocated m t size site color ≡ after (Err HeapError.WrongLength) m t
   unfolding allocated
-  wrong_memory h = same_as _ _ _ _ (rw (ne_eqb (length m) memory_size h, exact, allocated) refl)
+  wrong_length (inl h) = rw (ne_eqb (length m) memory_size h, exact, allocated) refl
+  wrong_length (inr h) = rw (eq-eqb (length m) memory_size h.0, ne_eqb (length t) table_size h.1, exact, allocated) refl
 
-  module _ (hm : length m ≡ memory_size) where
-    pub wrong_table : (length t ≡ table_size → ⊥) → Same Allocation.WrongLength m t (allocated m t size site color)
-    unfolding allocated
-    wrong_table h = same_as _ _ _ _ (rw (eq-eqb (length m) memory_size hm, ne_eqb (length t) table_size h, exact, allocated) refl)
+  module _ (hm : length m ≡ memory_size) (ht : length t ≡ table_size) where
+    by : (a : Alloc) → alloc m size site ≡ a → allocated m t size site color ≡ after_alloc m t color a
+    by a e = allocated_exact m t hm ht size site color ∙ ap (after_alloc m t color) e
 
-    module _ (ht : length t ≡ table_size) where
-      after : (a : Alloc) → alloc m size site ≡ a → allocated m t size site color ≡ after_alloc m t color a
-      after a e = allocated_exact m t hm ht size site color ∙ ap (after_alloc m t color) e
+    pub no_size : (size ≡ 0) ⊎ ((size ≡ 0 → ⊥) × (4096 < size)) → allocated m t size site color ≡ after (Ok None) m t
+    unfolding alloc
+    no_size (inl h) = by Alloc.nothing (rw (eq-eqb size 0 h, alloc) refl)
+    no_size (inr h) = by Alloc.nothing (rw (ne_eqb size 0 h.0, lt-leb size 4096 h.1, alloc) refl)
 
-      pub size_zero : size ≡ 0 → Same Allocation.Nothing m t (allocated m t size site color)
+    module _ (some : size ≡ 0 → ⊥) (most : size ≤ 4096) (want : ℕ) (wanted : want ≡ extent size) where
+      walked : (w : Walk) → walk m ≡ w → alloc m size site ≡ alloc_in m size site w
       unfolding alloc
-      size_zero h = same_as _ _ _ _ (after Alloc.nothing (rw (eq-eqb size 0 h, alloc) refl))
+      walked w e = rw (ne_eqb size 0 some, le-leb size 4096 most, alloc) (ap (alloc_in m size site) e)
 
-      pub size_above : (size ≡ 0 → ⊥) → 4096 < size → Same Allocation.Nothing m t (allocated m t size site color)
-      unfolding alloc
-      size_above z h = same_as _ _ _ _ (after Alloc.nothing (rw (ne_eqb size 0 z, lt-leb size 4096 h, alloc) refl))
+      pub stopped : (e : HeapError) → Err e ≡ fit_in 0 want (walk m) → allocated m t size site color ≡ after (Err e) m t
+      stopped e = go (walk m) refl
+        where
+          go : (w : Walk) → walk m ≡ w → Err e ≡ fit_in 0 want w → allocated m t size site color ≡ after (Err e) m t
+          go unsound q f = let is : HeapError.Unsound ≡ e = cc in by Alloc.stopped (walked unsound q) ∙ ap (λ x. after (Err x) m t) is
+          go (blocks bs) q f = cc
 
-      module _ (some : size ≡ 0 → ⊥) (most : size ≤ 4096) where
-        walked : (w : Walk) → walk m ≡ w → alloc m size site ≡ alloc_in m size site w
-        unfolding alloc
-        walked w e = rw (ne_eqb size 0 some, le-leb size 4096 most, alloc) (ap (alloc_in m size site) e)
+      module _ (header : ℕ) (f : Ok header ≡ fit_in 0 want (walk m)) where
+        -- what is found in the walk decides
+        first : {bs : List Block} (a : Alloc) → walk m ≡ blocks bs → first_fit m bs want (site + 1) ≡ a
+            → allocated m t size site color ≡ after_alloc m t color a
+        first {bs} a q e = by a (walked (blocks bs) q ∙ ap (λ x. first_fit m bs x (site + 1)) (sym wanted) ∙ e)
 
-        pub stopped : (want : ℕ) → Search.Unsound ≡ fit_in 0 want (walk m) → Same Allocation.Unsound m t (allocated m t size site color)
-        stopped want e = go (walk m) refl e
+        pub found_none : header ≡ 0 → allocated m t size site color ≡ after (Ok None) m t
+        found_none z = let w = found m want header f in go w.1.0 w.1.1.0 w.1.1.1
           where
-            go : (w : Walk) → walk m ≡ w → Search.Unsound ≡ fit_in 0 want w → Same Allocation.Unsound m t (allocated m t size site color)
-            go unsound q f = same_as _ _ _ _ (after Alloc.stopped (walked unsound q))
-            go (blocks bs) q f = absurd (let z : ◌≡◌ {A = ℕ} 0 1 = cc in omega arith)
+            go : {bs : List Block} → walk m ≡ blocks bs → header ≡ found_in 0 want bs → Fits m want bs
+                → allocated m t size site color ≡ after (Ok None) m t
+            go q e (none z n) = first Alloc.nothing q (n (site + 1))
+            go q e (one h z' n k) = let low : heap_start ≤ h = k.low in absurd (omega (arith, z, e, z', low))
 
-        module _ (want : ℕ) (wanted : want ≡ extent size) where
-          made : (header : ℕ) → alloc m size site ≡ Alloc.made (take_block m (block_at m header) want (site + 1))
-              → (body : ℕ) (m' t' : List ℕ) → Taken m t color want (site + 1) header body m' t' → Same (Allocation.Made body)
-              m' t' (allocated m t size site color)
-          made header e body m' t' k =
-              let a = after (Alloc.made (take_block m (block_at m header) want (site + 1))) e in (
-                ap (λ x. Allocation.Made x) k.0 ∙ sym (ap (λ x. x.answer) a),
-                (k.1.0 ∙ sym (ap (λ x. x.memory) a), k.1.1 ∙ sym (ap (λ x. x.table) a)),
-              )
+        pub found_made : (header ≡ 0 → ⊥)
+            → allocated m t size site color ≡ after_alloc m t color (Alloc.made (take_block m (block_at m header) want (site + 1)))
+        found_made some = let w = found m want header f in go w.1.0 w.1.1.0 w.1.1.1
+          where
+            go : {bs : List Block} → walk m ≡ blocks bs → header ≡ found_in 0 want bs → Fits m want bs
+                → allocated m t size site color ≡ after_alloc m t color (Alloc.made (take_block m (block_at m header) want (site + 1)))
+            go q e (none z n) = absurd (some (e ∙ z))
+            go q e (one h z n k) = first _ q (n (site + 1) ∙ ap (λ x. Alloc.made (take_block m (block_at m x) want (site + 1))) (sym (e ∙ z)))
 
-          pub found : (header : ℕ) → Search.Found header ≡ fit_in 0 want (walk m) → Found m t size site color want header
-          found header e = go (walk m) refl e (fits_walk m want 1792 heap_start (omega arith))
-            where
-              go : (w : Walk) → walk m ≡ w → Search.Found header ≡ fit_in 0 want w → FitsIn m want w → Found m t size site color want header
-              go unsound q f k = absurd (let z : ◌≡◌ {A = ℕ} 0 1 = cc in omega arith)
-              go (blocks bs) q f (none z n) =
-                  let f' : Search.Found header ≡ Search.Found (found_in 0 want bs) = f in
-                  let is : header ≡ found_in 0 want bs = cc in
-                  let none : first_fit m bs (extent size) (site + 1) ≡ Alloc.nothing =
-                  ap (λ x. first_fit m bs x (site + 1)) (sym wanted) ∙ n (site + 1) in
-                  nothing (is ∙ z) (same_as _ _ _ _ (after Alloc.nothing (walked (blocks bs) q ∙ none)))
-              go (blocks bs) q f (one h z n k) =
-                  let f' : Search.Found header ≡ Search.Found (found_in 0 want bs) = f in
-                  let is : header ≡ found_in 0 want bs = cc in
-                  let taken : first_fit m bs (extent size) (site + 1) ≡ Alloc.made (take_block m (block_at m h) want (site + 1)) =
-                  ap (λ x. first_fit m bs x (site + 1)) (sym wanted) ∙ n (site + 1) in
-                  subst (λ x. Found m t size site color want x) (sym (is ∙ z))
-                  (fitting (λ y. omega (arith, k.low)) (record { memory = hm; table = ht; ends = k.ends; holds = k.holds })
-                  (made h (walked (blocks bs) q ∙ taken)))
+-- each return by its law
+pub ruleset alloc_answers = (wrong_length, no_size, stopped, found_none, found_made)

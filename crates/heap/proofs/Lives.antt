@@ -8,18 +8,18 @@
 use Prim.Native.Nat.{ℕ, zero, suc, ◌+◌, ◌-◌, ◌≤◌, ◌<◌}
 use mathlib.Core.Path.{◌≡◌, refl, sym, ap, ◌∙◌, subst}
 use mathlib.Core.Bool.{Bool, true, false}
+use mathlib.Core.Logic.{◌⊎◌, inl, inr}
 use mathlib.Core.List.{List, [], ◌∷◌}
 use native.Mathlib.Omega.{arith}
 use lib.ListN.{length}
 use lib.Dec.{eqb}
 use borrow.Author.Tests.{eq-eqb, ne_eqb, eqb-true}
-use Rattle.heap.specs.declared.Search.{Search}
-use Rattle.heap.specs.declared.Release.{Release}
+use Rattle.std.specs.Prelude.{Result, Ok, Err, ⊤}
+use Rattle.heap.specs.declared.HeapError.{HeapError}
 use Rattle.memory.specs.Memory.{memory_size, table_size, exact, number_at, paint}
 use Rattle.heap.specs.Heap.{Block, Freed, Free, is_free, end_slot, heap_start, block_at, sound, Walk, unsound, blocks, with_block, walk_from, walk, put_header, spare, free_in, free_walked, free}
-use Rattle.heap.specs.Lent.{after_free, released}
+use Rattle.heap.specs.Lent.{After, after_free, released}
 use Rattle.heap.specs.Search.{spare_of, spare_at, start_of, start_in, live_in, whole_of, Joining}
-use Rattle.heap.proofs.Blocks.{Same, same_as}
 use Rattle.heap.proofs.Exact.{released_exact}
 use Rattle.heap.proofs.Walks.{Sound, sound_says, next_of, spare_below}
 
@@ -184,63 +184,68 @@ module _ (m : List ℕ) where
 
 -- ---- what FREE answers
 
--- what a start that was found says: there is none, or the block is joined
-pub data Found (m t : List ℕ) (address start : ℕ) : Type 0 where
-  bad : start ≡ 0 → Same Release.Bad m t (released m t address) → Found m t address start
-  joins : (start ≡ 0 → ⊥) → Joining m t start address
-      → Same Release.Freed (put_header m start (whole_of m start address) 0) (paint t (start + 8) (whole_of m start address) 0)
-      (released m t address)
-      → Found m t address start
+module _ (m : List ℕ) (address start : ℕ) (f : Ok start ≡ live_in 0 0 address (walk m)) where
+  -- what the loop found stands in the walk
+  found : (bs : List Block) × ((walk m ≡ blocks bs) × ((start ≡ start_in 0 0 address bs) × Lives m address [] bs))
+  found = go (walk m) refl f (lives_walk m address 1792 heap_start [] (omega arith) (omega arith))
+    where
+      go : (w : Walk) → walk m ≡ w → Ok start ≡ live_in 0 0 address w → LivesIn m address [] w
+          → (bs : List Block) × ((walk m ≡ blocks bs) × ((start ≡ start_in 0 0 address bs) × Lives m address [] bs))
+      go unsound q f k = cc
+      go (blocks bs) q f k = (bs, (q, (cc, k)))
 
-module _ {m t : List ℕ} {address start : ℕ} where
-  pub found_none : Found m t address start → start ≡ 0 → Same Release.Bad m t (released m t address)
-  found_none (bad z e) h = e
-  found_none (joins some k e) h = absurd (some h)
+  pub found_joins : (t : List ℕ) → length m ≡ memory_size → length t ≡ table_size → (start ≡ 0 → ⊥) → Joining m t start address
+  found_joins t hm ht some = go found.1.1.0 found.1.1.1
+    where
+      go : {bs : List Block} → start ≡ start_in 0 0 address bs → Lives m address [] bs → Joining m t start address
+      go e (missing z n) = absurd (some (e ∙ z))
+      go e (live s z n k) =
+          subst (λ x. Joining m t x address) (sym (e ∙ z))
+          (record { memory = hm; table = ht; above = k.above; next = k.next; ends = k.ends })
 
-  pub found_joins : Found m t address start → (start ≡ 0 → ⊥) → Joining m t start address
-  found_joins (bad z e) h = absurd (h z)
-  found_joins (joins some k e) h = k
-
-  pub found_freed : Found m t address start → (start ≡ 0 → ⊥) → (m' t' : List ℕ) → m' ≡ put_header m start (whole_of m start address) 0
-      → t' ≡ paint t (start + 8) (whole_of m start address) 0 → Same Release.Freed m' t' (released m t address)
-  found_freed (bad z e) h m' t' em et = absurd (h z)
-  found_freed (joins some k e) h m' t' em et = (e.0, (em ∙ e.1.0, et ∙ e.1.1))
+-- the answer, and what memory and table hold afterwards
+abbrev after : (answer : Result ⊤ HeapError) → (memory table : List ℕ) → After (Result ⊤ HeapError)
+after answer m t = record { answer = answer; memory = m; table = t }
 
 module _ (m t : List ℕ) (address : ℕ) where
-  pub wrong_memory : (length m ≡ memory_size → ⊥) → Same Release.WrongLength m t (released m t address)
+  pub wrong_length : (length m ≡ memory_size → ⊥) ⊎ ((length m ≡ memory_size) × (length t ≡ table_size → ⊥))
+      → released m t address ≡ after (Err HeapError.WrongLength) m t
   unfolding released
-  wrong_memory h = same_as _ _ _ _ (rw (ne_eqb (length m) memory_size h, exact, released) refl)
+  wrong_length (inl h) = rw (ne_eqb (length m) memory_size h, exact, released) refl
+  wrong_length (inr h) = rw (eq-eqb (length m) memory_size h.0, ne_eqb (length t) table_size h.1, exact, released) refl
 
-  module _ (hm : length m ≡ memory_size) where
-    pub wrong_table : (length t ≡ table_size → ⊥) → Same Release.WrongLength m t (released m t address)
-    unfolding released
-    wrong_table h = same_as _ _ _ _ (rw (eq-eqb (length m) memory_size hm, ne_eqb (length t) table_size h, exact, released) refl)
+  module _ (hm : length m ≡ memory_size) (ht : length t ≡ table_size) where
+    by : (w : Walk) → walk m ≡ w → (a : Free) → free_walked m address w ≡ a → released m t address ≡ after_free m t a
+    unfolding free
+    by w q a e =
+        released_exact m t hm ht address ∙ ap (λ x. after_free m t (free_walked m address x)) q ∙ ap (after_free m t) e
 
-    module _ (ht : length t ≡ table_size) where
-      after : (w : Walk) → walk m ≡ w → (f : Free) → free_walked m address w ≡ f → released m t address ≡ after_free m t f
-      unfolding free
-      after w q f e =
-          released_exact m t hm ht address ∙ ap (λ x. after_free m t (free_walked m address x)) q ∙ ap (after_free m t) e
+    pub stopped : (e : HeapError) → Err e ≡ live_in 0 0 address (walk m) → released m t address ≡ after (Err e) m t
+    stopped e = go (walk m) refl
+      where
+        go : (w : Walk) → walk m ≡ w → Err e ≡ live_in 0 0 address w → released m t address ≡ after (Err e) m t
+        go unsound q f = let is : HeapError.Unsound ≡ e = cc in by unsound q Free.stopped refl ∙ ap (λ x. after (Err x) m t) is
+        go (blocks bs) q f = cc
 
-      pub stopped : Search.Unsound ≡ live_in 0 0 address (walk m) → Same Release.Unsound m t (released m t address)
-      stopped e = go (walk m) refl e
+    module _ (start : ℕ) (f : Ok start ≡ live_in 0 0 address (walk m)) where
+      pub found_none : start ≡ 0 → released m t address ≡ after (Err HeapError.BadAddress) m t
+      found_none none = let w = found m address start f in go w.1.0 w.1.1.0 w.1.1.1
         where
-          go : (w : Walk) → walk m ≡ w → Search.Unsound ≡ live_in 0 0 address w → Same Release.Unsound m t (released m t address)
-          go unsound q f = same_as _ _ _ _ (after unsound q Free.stopped refl)
-          go (blocks bs) q f = absurd (let z : ◌≡◌ {A = ℕ} 0 1 = cc in omega arith)
+          go : {bs : List Block} → walk m ≡ blocks bs → start ≡ start_in 0 0 address bs → Lives m address [] bs
+              → released m t address ≡ after (Err HeapError.BadAddress) m t
+          go {bs} q e (missing z n) = by (blocks bs) q Free.bad n
+          go q e (live s z n k) = let low : heap_start ≤ s = k.low in absurd (omega (arith, none, e, z, low))
 
-      pub found : (start : ℕ) → Search.Found start ≡ live_in 0 0 address (walk m) → Found m t address start
-      found start e = go (walk m) refl e (lives_walk m address 1792 heap_start [] (omega arith) (omega arith))
+      pub found_freed : (start ≡ 0 → ⊥)
+          → released m t address
+          ≡ after (Ok tt) (put_header m start (whole_of m start address) 0) (paint t (start + 8) (whole_of m start address) 0)
+      found_freed some = let w = found m address start f in go w.1.0 w.1.1.0 w.1.1.1
         where
-          go : (w : Walk) → walk m ≡ w → Search.Found start ≡ live_in 0 0 address w → LivesIn m address [] w → Found m t address start
-          go unsound q f k = absurd (let z : ◌≡◌ {A = ℕ} 0 1 = cc in omega arith)
-          go (blocks bs) q f (missing z n) =
-              let f' : Search.Found start ≡ Search.Found (start_in 0 0 address bs) = f in
-              let is : start ≡ start_in 0 0 address bs = cc in
-              bad (is ∙ z) (same_as _ _ _ _ (after (blocks bs) q Free.bad n))
-          go (blocks bs) q f (live s z n k) =
-              let f' : Search.Found start ≡ Search.Found (start_in 0 0 address bs) = f in
-              let is : start ≡ start_in 0 0 address bs = cc in
-              subst (λ x. Found m t address x) (sym (is ∙ z))
-              (joins (λ y. omega (arith, k.low)) (record { memory = hm; table = ht; above = k.above; next = k.next; ends = k.ends })
-              (same_as _ _ _ _ (after (blocks bs) q (Free.freed (joined m address s)) n)))
+          go : {bs : List Block} → walk m ≡ blocks bs → start ≡ start_in 0 0 address bs → Lives m address [] bs
+              → released m t address
+              ≡ after (Ok tt) (put_header m start (whole_of m start address) 0) (paint t (start + 8) (whole_of m start address) 0)
+          go q e (missing z n) = absurd (some (e ∙ z))
+          go {bs} q e (live s z n k) = by (blocks bs) q _ n ∙ ap (λ x. after_free m t (Free.freed (joined m address x))) (sym (e ∙ z))
+
+-- each return by its law
+pub ruleset free_answers = (wrong_length, stopped, found_none, found_freed)

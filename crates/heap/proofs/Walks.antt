@@ -11,7 +11,8 @@ use mathlib.Core.List.{List, []}
 use native.Mathlib.Omega.{arith}
 use lib.Dec.{leb, eqb}
 use borrow.Author.Tests.{eq-eqb, ne_eqb, eqb-true, leb-true}
-use Rattle.heap.specs.declared.Search.{Search}
+use Rattle.std.specs.Prelude.{Result, Ok}
+use Rattle.heap.specs.declared.HeapError.{HeapError}
 use Rattle.memory.specs.Memory.{number_at}
 use Rattle.heap.specs.Heap.{Block, end_slot, heap_start, block_at, sound, Walk, unsound, blocks, with_block, walk_from, walk}
 use Rattle.heap.specs.Search.{first_of, found_in, fit_in, spare_of, start_of, start_in, live_in}
@@ -61,17 +62,17 @@ abbrev pub block_of : (header size mark : ℕ) → Block
 block_of header size mark = record { header = header; size = size; mark = mark }
 
 -- a loop stands at a header: what it has found so far, taken on over the walk that is left, is its goal
-pub record Way (m : List ℕ) (at : ℕ) (search : Walk → Search) (goal : Search) : Type 0 where
+pub record Way (m : List ℕ) (at : ℕ) (search : Walk → Result ℕ HeapError) (goal : Result ℕ HeapError) : Type 0 where
   pub left : ℕ
   pub enough : end_slot + 8 ≤ at + 16 * left
   pub low : heap_start ≤ at
   pub high : at ≤ end_slot
   pub same : search (walk_from left m at) ≡ goal
 
-pub way_starts : (m : List ℕ) (search : Walk → Search) → Way m heap_start search (search (walk m))
+pub way_starts : (m : List ℕ) (search : Walk → Result ℕ HeapError) → Way m heap_start search (search (walk m))
 way_starts m search = record { left = 1792; enough = omega arith; low = omega arith; high = omega arith; same = refl }
 
-module _ {m : List ℕ} {at : ℕ} {search : Walk → Search} {goal : Search} (way : Way m at search goal) where
+module _ {m : List ℕ} {at : ℕ} {search : Walk → Result ℕ HeapError} {goal : Result ℕ HeapError} (way : Way m at search goal) where
   pub way_done : end_slot ≤ at → search (blocks []) ≡ goal
   way_done h =
       let high : at ≤ end_slot = way.high in
@@ -97,7 +98,7 @@ module _ {m : List ℕ} {at : ℕ} {search : Walk → Search} {goal : Search} (w
     says s = sound_says (block_of at size 0) s
 
     pub way_goes : (mark : ℕ) → mark ≡ number_at 4 m (at + 4) → sound (block_of at size 0) ≡ true
-        → (search' : Walk → Search) → ((w : Walk) → search (with_block (block_of at size mark) w) ≡ search' w)
+        → (search' : Walk → Result ℕ HeapError) → ((w : Walk) → search (with_block (block_of at size mark) w) ≡ search' w)
         → Way m (at + 8 + size) search' goal
     unfolding block_at sound
     way_goes mark marked s search' step =
@@ -121,13 +122,13 @@ pub fit_step : (found want : ℕ) (b : Block) (found' : ℕ) → found' ≡ firs
     (with_block b w) ≡ fit_in found' want w
 unfolding found_in
 fit_step found want b found' e unsound = refl
-fit_step found want b found' e (blocks bs) = ap (λ x. Search.Found (found_in x want bs)) (sym e)
+fit_step found want b found' e (blocks bs) = ap (λ x. Ok (found_in x want bs)) (sym e)
 
 pub live_step : (start spare address : ℕ) (b : Block) (start' spare' : ℕ) → start' ≡ start_of start spare address b → spare' ≡ spare_of b
     → (w : Walk) → live_in start spare address (with_block b w) ≡ live_in start' spare' address w
 unfolding start_in
 live_step start spare address b start' spare' e₁ e₂ unsound = refl
-live_step start spare address b start' spare' e₁ e₂ (blocks bs) = ap₂ (λ x y. Search.Found (start_in x y address bs)) (sym e₁) (sym e₂)
+live_step start spare address b start' spare' e₁ e₂ (blocks bs) = ap₂ (λ x y. Ok (start_in x y address bs)) (sym e₁) (sym e₂)
 
 -- what a block adds is not more than what it takes
 pub spare_below : (header size mark spare : ℕ) → spare ≡ spare_of (block_of header size mark) → spare ≤ 8 + size

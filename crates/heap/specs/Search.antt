@@ -1,7 +1,7 @@
 -- What the functions inside the crate answer: the searches that a walk makes on its way. Nothing outside
 -- the crate cites this; the promises of ALLOC and FREE are in Lent.
-use Rattle.std.specs.Prelude.{ℕ, ◌+◌, ◌-◌, ◌≤◌, ◌≡◌, List, [], ◌∷◌, true, false, length, leb, eqb}
-use Rattle.heap.specs.declared.Search.{Search}
+use Rattle.std.specs.Prelude.{ℕ, ◌+◌, ◌-◌, ◌≤◌, ◌≡◌, List, [], ◌∷◌, true, false, Result, Ok, Err, length, leb, eqb}
+use Rattle.heap.specs.declared.HeapError.{HeapError}
 use Rattle.memory.specs.Memory.{memory_size, table_size, number_at}
 use Rattle.heap.specs.Heap.{Block, body_of, is_free, block_at, end_slot, Walk, unsound, blocks}
 
@@ -18,9 +18,9 @@ unfoldable pub found_in : (found want : ℕ) → List Block → ℕ
 found_in found want [] = found
 found_in found want (b ∷ bs) = found_in (first_of found want b) want bs
 
-abbrev pub fit_in : (found want : ℕ) → Walk → Search
-fit_in found want unsound = Search.Unsound
-fit_in found want (blocks bs) = Search.Found (found_in found want bs)
+abbrev pub fit_in : (found want : ℕ) → Walk → Result ℕ HeapError
+fit_in found want unsound = Err HeapError.Unsound
+fit_in found want (blocks bs) = Ok (found_in found want bs)
 
 -- ---- FREE's search: where the joined block would start, 0 while the address was not met
 
@@ -43,9 +43,9 @@ unfoldable pub start_in : (start spare address : ℕ) → List Block → ℕ
 start_in start spare address [] = start
 start_in start spare address (b ∷ bs) = start_in (start_of start spare address b) (spare_of b) address bs
 
-abbrev pub live_in : (start spare address : ℕ) → Walk → Search
-live_in start spare address unsound = Search.Unsound
-live_in start spare address (blocks bs) = Search.Found (start_in start spare address bs)
+abbrev pub live_in : (start spare address : ℕ) → Walk → Result ℕ HeapError
+live_in start spare address unsound = Err HeapError.Unsound
+live_in start spare address (blocks bs) = Ok (start_in start spare address bs)
 
 -- ---- what is known where memory and table are changed
 

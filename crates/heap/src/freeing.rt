@@ -6,7 +6,7 @@ ghost use Rattle.heap.specs.Lent.{released};
 ghost use Rattle.heap.specs.Search.{spare_of, spare_at, start_of, live_in, whole_of, Joining};
 
 use crate::headers::{is_sound, mark_at, put_header, size_at};
-use crate::{END, HEAP, MEMORY, Release, Search, TABLE};
+use crate::{END, HEAP, HeapError, MEMORY, TABLE};
 use memory::colors::paint;
 
 // What a block adds to a neighbour that joins it: header and body where it is free.
@@ -14,10 +14,7 @@ fn spare_of(size: usize, mark: u32) -> usize
     requires { size < 2 ^ 32 }
     ensures { result ≡ spare_of (record { header = 0; size = size; mark = mark }) }
 {
-    if mark != 0 {
-        return 0;
-    }
-    8 + size
+    if mark == 0 { 8 + size } else { 0 }
 }
 
 // Where the joined block would start: known before, or at this block where it is live and its body
@@ -26,18 +23,16 @@ fn start_of(start: usize, spare: usize, address: usize, header: usize, mark: u32
     requires { (spare ≤ header) × (header ≤ end_slot) }
     ensures { result ≡ start_of start spare address (record { header = header; size = 0; mark = mark }) }
 {
-    if header + 8 != address {
-        return start;
+    if header + 8 == address && mark != 0 {
+        header - spare
+    } else {
+        start
     }
-    if mark == 0 {
-        return start;
-    }
-    header - spare
 }
 
-// All headers up to the end slot are walked; an unsound one stops it. Found is where the block that
-// is live at the address starts when it is joined with a free one before it.
-fn find_live(memory: &[u8], address: usize) -> Search
+// All headers up to the end slot are walked; an unsound one stops it. The answer is where the block that
+// is live at the address starts when it is joined with a free one before it, 0 where there is none.
+fn find_live(memory: &[u8], address: usize) -> Result<usize, HeapError>
     requires { length memory.now ≡ memory_size }
     ensures { result ≡ live_in 0 0 address (walk memory.now) }
 {
@@ -47,17 +42,18 @@ fn find_live(memory: &[u8], address: usize) -> Search
     while at < END {
         let size = size_at(memory, at) as usize;
         if !is_sound(at, size) {
-            return Search::Unsound;
+            return Err(HeapError::Unsound);
         }
         let mark = mark_at(memory, at);
         start = start_of(start, spare, address, at, mark);
         spare = spare_of(size, mark);
         at = at + 8 + size;
     }
-    Search::Found(start)
+    Ok(start)
 }
 
 // What the block behind adds; the end slot is none.
+#[tactic(auto, unfolding(crate::specs::Heap::block_at))]
 fn spare_at(memory: &[u8], header: usize) -> usize
     requires { (length memory.now ≡ memory_size) × (header ≤ end_slot) }
     ensures { result ≡ spare_at memory.now header }
@@ -65,9 +61,7 @@ fn spare_at(memory: &[u8], header: usize) -> usize
     if header == END {
         return 0;
     }
-    let size = size_at(memory, header) as usize;
-    let mark = mark_at(memory, header);
-    spare_of(size, mark)
+    spare_of(size_at(memory, header) as usize, mark_at(memory, header))
 }
 
 // The live block at an address becomes part of a free one from `start` on, which takes in a free
@@ -86,24 +80,20 @@ fn join(memory: &mut [u8], table: &mut [u8], start: usize, address: usize)
 }
 
 // FREE of an address.
-pub fn free(memory: &mut [u8], table: &mut [u8], address: u32) -> Release
+#[tactic(auto, using(crate::proofs::Lives::free_answers))]
+pub fn free(memory: &mut [u8], table: &mut [u8], address: u32) -> Result<(), HeapError>
     ensures value { result ≡ (released memory.old table.old address).answer }
     ensures memory_after { memory.new ≡ (released memory.old table.old address).memory }
     ensures table_after { table.new ≡ (released memory.old table.old address).table }
 {
-    if memory.len() != MEMORY {
-        return Release::WrongLength;
-    }
-    if table.len() != TABLE {
-        return Release::WrongLength;
+    if memory.len() != MEMORY || table.len() != TABLE {
+        return Err(HeapError::WrongLength);
     }
     let at = address as usize;
-    let Search::Found(start) = find_live(memory, at) else {
-        return Release::Unsound;
-    };
+    let start = find_live(memory, at)?;
     if start == 0 {
-        return Release::Bad;
+        return Err(HeapError::BadAddress);
     }
     join(memory, table, start, at);
-    Release::Freed
+    Ok(())
 }

@@ -18,34 +18,13 @@ const HEAP: usize = 28672;
 
 const END: usize = 57336;
 
-// What ALLOC answers.
+// Why ALLOC or FREE is refused.
 #[derive(Clone, Copy)]
-pub enum Allocation {
+pub enum HeapError {
     // Memory or table is not of its exact length.
     WrongLength,
     // A header is unsound.
     Unsound,
-    // The size is 0 or above 4,096, or no free body holds it.
-    Nothing,
-    // The address of the body.
-    Made(u32),
-}
-
-// What FREE answers.
-#[derive(Clone, Copy)]
-pub enum Release {
-    // Memory or table is not of its exact length.
-    WrongLength,
-    // A header is unsound.
-    Unsound,
-    // The address is not the body of a live block.
-    Bad,
-    Freed,
-}
-
-// What a walk over all headers finds on its way: a header, 0 where there is none.
-#[derive(Clone, Copy)]
-enum Search {
-    Unsound,
-    Found(usize),
+    // FREE: the address is not the body of a live block.
+    BadAddress,
 }

@@ -6,7 +6,7 @@ ghost use Rattle.heap.specs.Lent.{allocated};
 ghost use Rattle.heap.specs.Search.{first_of, fit_in, Fitting};
 
 use crate::headers::{is_sound, mark_at, put_header, size_at};
-use crate::{Allocation, END, HEAP, MEMORY, Search, TABLE};
+use crate::{END, HEAP, HeapError, MEMORY, TABLE};
 use memory::bytes::fill;
 use memory::colors::paint;
 use opcodes::extent::extent_of;
@@ -15,21 +15,16 @@ use opcodes::extent::extent_of;
 fn first_of(found: usize, want: usize, header: usize, size: usize, mark: u32) -> usize
     ensures { result ≡ first_of found want (record { header = header; size = size; mark = mark }) }
 {
-    if found != 0 {
-        return found;
+    if found == 0 && mark == 0 && want <= size {
+        header
+    } else {
+        found
     }
-    if mark != 0 {
-        return 0;
-    }
-    if size < want {
-        return 0;
-    }
-    header
 }
 
-// All headers up to the end slot are walked; an unsound one stops it. Found is the first free block
-// that holds the size.
-fn first_fit(memory: &[u8], want: usize) -> Search
+// All headers up to the end slot are walked; an unsound one stops it. The answer is the header of the first
+// free block that holds the size, 0 where there is none.
+fn first_fit(memory: &[u8], want: usize) -> Result<usize, HeapError>
     requires { length memory.now ≡ memory_size }
     ensures { result ≡ fit_in 0 want (walk memory.now) }
 {
@@ -38,17 +33,18 @@ fn first_fit(memory: &[u8], want: usize) -> Search
     while at < END {
         let size = size_at(memory, at) as usize;
         if !is_sound(at, size) {
-            return Search::Unsound;
+            return Err(HeapError::Unsound);
         }
         let mark = mark_at(memory, at);
         found = first_of(found, want, at, size, mark);
         at = at + 8 + size;
     }
-    Search::Found(found)
+    Ok(found)
 }
 
 // A header and a body of this size: the body's part of memory is set to zero, and its slots' part of
 // the table takes the color.
+#[tactic(auto, using(memory::proofs::Parts::part_filled))]
 fn hand_out(
     memory: &mut [u8],
     table: &mut [u8],
@@ -74,6 +70,7 @@ fn hand_out(
 }
 
 // A free block that holds the size is taken: cut if at least 16 bytes would remain, else whole.
+#[tactic(auto, using(memory::proofs::Exact::painted_exact), unfolding(crate::specs::Heap::take_block, crate::specs::Heap::block_at))]
 fn take_block(
     memory: &mut [u8],
     table: &mut [u8],
@@ -98,32 +95,31 @@ fn take_block(
     hand_out(memory, table, header, want, mark, color)
 }
 
-// ALLOC: so many bytes for a heap site, whose color is handed in.
-pub fn alloc(memory: &mut [u8], table: &mut [u8], size: u32, site: u16, color: u8) -> Allocation
+// ALLOC: so many bytes for a heap site, whose color is handed in. The answer is the body's address, none where
+// the size is 0 or above 4,096, or no free body holds it.
+#[tactic(auto, using(crate::proofs::Fits::alloc_answers))]
+pub fn alloc(
+    memory: &mut [u8],
+    table: &mut [u8],
+    size: u32,
+    site: u16,
+    color: u8,
+) -> Result<Option<u32>, HeapError>
     ensures value { result ≡ (allocated memory.old table.old size site color).answer }
     ensures memory_after { memory.new ≡ (allocated memory.old table.old size site color).memory }
     ensures table_after { table.new ≡ (allocated memory.old table.old size site color).table }
 {
-    if memory.len() != MEMORY {
-        return Allocation::WrongLength;
+    if memory.len() != MEMORY || table.len() != TABLE {
+        return Err(HeapError::WrongLength);
     }
-    if table.len() != TABLE {
-        return Allocation::WrongLength;
-    }
-    if size == 0 {
-        return Allocation::Nothing;
-    }
-    if 4096 < size {
-        return Allocation::Nothing;
+    if size == 0 || 4096 < size {
+        return Ok(None);
     }
     let want = extent_of(size);
-    let Search::Found(header) = first_fit(memory, want) else {
-        return Allocation::Unsound;
-    };
+    let header = first_fit(memory, want)?;
     if header == 0 {
-        return Allocation::Nothing;
+        return Ok(None);
     }
     let mark = site as u32 + 1;
-    let body = take_block(memory, table, header, want, mark, color);
-    Allocation::Made(body)
+    Ok(Some(take_block(memory, table, header, want, mark, color)))
 }

@@ -19,7 +19,7 @@ use Rattle.layout.specs.Layout.{Piece, safe_space, unsafe_space, total, unsafe_f
 -- ---- totals
 
 module _ (space : Piece → ℕ) where
-  total_next : (os : List Piece) (g : ℕ) (d : Piece) → g < length os
+  pub total_next : (os : List Piece) (g : ℕ) (d : Piece) → g < length os
       → total space (take (suc g) os) ≡ total space (take g os) + space (get_or os g d)
   unfolding total
   total_next [] g d h = absurd (not-suc-le-zero h)

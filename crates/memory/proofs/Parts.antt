@@ -1,10 +1,10 @@
--- Numbers of one and four bytes in memory, byte by byte; parts of memory or table that were lent on: what is read
--- from them or written into them stands in the whole, and they come back filled.
-use Prim.Native.Nat.{ℕ, zero, suc, ◌+◌, ◌*◌, ◌/◌, ◌%◌, ◌≤◌, ◌<◌}
+-- Parts of memory or table that were lent on: what is read from them or written into them stands in the whole, and
+-- they come back filled.
+use Prim.Native.Nat.{ℕ, zero, suc, ◌+◌, ◌≤◌, ◌<◌}
 use mathlib.Core.Path.{◌≡◌, refl, sym, ap, ◌∙◌}
 use mathlib.Core.List.{List, [], ◌++◌, append_assoc, append-nil}
 use native.Mathlib.Omega.{arith}
-use lib.ListN.{length, get_or, set, take, drop, replicate, length-drop}
+use lib.ListN.{length, get_or, take, drop, replicate, length-drop}
 use Rattle.std.proofs.Common.{zero-add, add-zero, add_assoc}
 use Rattle.std.proofs.lemmas.List.{get_or-take, get_or-drop}
 use lib.Seq.{sets-eq, drop-length, length-take-le, drop-drop}
@@ -14,45 +14,6 @@ use Rattle.memory.specs.Lent.{loaded, stored}
 use Rattle.memory.specs.Memory.{number_at, bytes_of, put, fill}
 use Rattle.memory.proofs.Memory.{length-bytes_of}
 
-pub number_1 : (m : List ℕ) (a : ℕ) → number_at 1 m a ≡ get_or m a 0
-unfolding number_at
-number_1 m a = omega arith
-
-pub number_4 : (m : List ℕ) (a : ℕ) → number_at 4 m a ≡ get_or m a 0 + 256 *
-    (get_or m (a + 1) 0 + 256 * (get_or m (a + 2) 0 + 256 * get_or m (a + 3) 0))
-unfolding number_at
-number_4 m a =
-    let two : a + 1 + 1 ≡ a + 2 = omega arith in
-    let three : a + 2 + 1 ≡ a + 3 = omega arith in
-    rw (two, three) (omega arith)
-
-pub put_1 : (m : List ℕ) (a v : ℕ) → put m a (bytes_of 1 v) ≡ set m a (v % 256)
-unfolding put bytes_of
-put_1 m a v = refl
-
-pub put_4 : (m : List ℕ) (a v : ℕ)
-    → put m a (bytes_of 4 v) ≡ set (set (set (set m a (v % 256)) (a + 1) (v / 256 % 256)) (a + 2) (v / 65536 % 256)) (a + 3)
-    (v / 16777216 % 256)
-unfolding put bytes_of
-put_4 m a v =
-    let one : a + 1 ≡ suc a = omega arith in
-    let two : a + 2 ≡ suc (suc a) = omega arith in
-    let three : a + 3 ≡ suc (suc (suc a)) = omega arith in
-    let third : v / 256 / 256 ≡ v / 65536 = omega arith in
-    let fourth : v / 65536 / 256 ≡ v / 16777216 = omega arith in
-    rw (one, two, three, third, fourth)
-
--- ---- what a load answers and a store leaves
-
-module _ (n : ℕ) (m : List ℕ) (a v : ℕ) (fits : a + n ≤ length m) where
-  pub load_inside : v ≡ number_at n m a → Some v ≡ loaded n m a
-  load_inside e = rw (le-leb (a + n) (length m) fits, loaded, e) refl
-
-  pub store_inside : (after : List ℕ) → after ≡ put m a (bytes_of n v) → after ≡ stored n m a v
-  store_inside after e = rw (le-leb (a + n) (length m) fits, stored) e
-
--- ---- a filled part
-
 -- a part that was lent on and came back filled: n elements from index a on
 pub part_filled : (l : List ℕ) (a n v k : ℕ) (part : List ℕ) → k ≡ n → a + n ≤ length l → part ≡ replicate (length (take k (drop a l))) v
     → take a l ++ (part ++ drop k (drop a l)) ≡ fill l a n v
@@ -61,8 +22,6 @@ part_filled l a n v k part e h filled =
     let long : length (take n (drop a l)) ≡ n = length-take-le n (drop a l) (rw length-drop (omega arith)) in
     rw (filled, e, long, drop-drop)
     (sym (append_assoc (take a l) (replicate n v) (drop (a + n) l)))
-
--- ---- a part that was lent on, to be read or written
 
 -- a number depends on its own bytes alone, wherever they stand
 number_moved : (n : ℕ) (m m' : List ℕ) (a b : ℕ) → ((k : ℕ) → k < n → get_or m (a + k) 0 ≡ get_or m' (b + k) 0)
@@ -74,6 +33,13 @@ number_moved (suc n) m m' a b same =
     let rest : number_at n m (a + 1) ≡ number_at n m' (b + 1) =
     number_moved n m m' (a + 1) (b + 1) (λ k h. rw (add_assoc a 1 k, add_assoc b 1 k) (same (1 + k) (omega arith))) in
     cc
+
+module _ (n : ℕ) (m : List ℕ) (a v : ℕ) (fits : a + n ≤ length m) where
+  load_inside : v ≡ number_at n m a → Some v ≡ loaded n m a
+  load_inside e = rw (le-leb (a + n) (length m) fits, loaded, e) refl
+
+  store_inside : (after : List ℕ) → after ≡ put m a (bytes_of n v) → after ≡ stored n m a v
+  store_inside after e = rw (le-leb (a + n) (length m) fits, stored) e
 
 -- as many bytes are written as a part has
 written_over : (part bytes : List ℕ) → length part ≡ length bytes → put part 0 bytes ≡ bytes

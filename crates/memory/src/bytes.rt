@@ -12,6 +12,7 @@ pub fn fill(part: &mut [u8], value: u8)
 }
 
 // LOAD8 and LOAD32: none where one of the bytes lies outside. The end is counted in 64 bits, so that it cannot wrap.
+#[tactic(auto, using(crate::proofs::Parts::part_loaded))]
 pub fn load<W: Width>(memory: &[u8], address: u32) -> Option<u32>
     ensures { result ≡ loaded W.bytes memory.now address }
 {
@@ -27,6 +28,7 @@ pub fn number_at(memory: &[u8], address: u32) -> u32
 }
 
 // A store of the low bytes: false, and nothing is changed, where one of them would lie outside.
+#[tactic(auto, using(crate::proofs::Parts::part_stored))]
 pub fn store<W: Width>(memory: &mut [u8], address: u32, value: u32) -> bool
     ensures value { result ≡ within W.bytes memory.old address }
     ensures memory_after { memory.new ≡ stored W.bytes memory.old address value }

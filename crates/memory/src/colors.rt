@@ -17,6 +17,7 @@ fn color_at(table: &[u8], address: usize) -> u8
 
 // CHECK8 and CHECK32: each byte lies in memory, in a slot of the color. Four bytes touch at most two slots,
 // so the first and the last byte decide. The last address is counted in 64 bits and cannot wrap.
+#[tactic(auto, using(crate::proofs::Slots::check_outside, crate::proofs::Slots::check_first, crate::proofs::Slots::check_last))]
 pub fn check<W: Width>(table: &[u8], address: u32, color: u8) -> bool
     ensures { result ≡ every_byte W.bytes (has_color table.now color) address }
 {
@@ -27,6 +28,7 @@ pub fn check<W: Width>(table: &[u8], address: u32, color: u8) -> bool
 }
 
 // The slots of `count` bytes from an address on are lent on to be filled with a color.
+#[tactic(auto, using(crate::proofs::Parts::part_filled))]
 fn paint_slots(table: &mut [u8], address: usize, count: usize, color: u8)
     requires { slot address + slot count ≤ length table.old }
     ensures { table.new ≡ paint table.old address count color }

@@ -1,5 +1,7 @@
 // How many bytes a load, a store or a check covers: one or four. What is read and written stands at the front of a
 // part of memory, low byte first.
+#![tactic(auto, unfolding(crate::specs::Memory::number_at, crate::specs::Memory::put, crate::specs::Memory::bytes_of))]
+
 ghost use Rattle.std.specs.Prelude.{◌≡◌, ℕ, ◌≤◌};
 ghost use Rattle.std.proofs.Common.{lit≤};
 ghost use Rattle.memory.specs.Lent.{loaded, stored};
@@ -18,6 +20,7 @@ pub trait Width {
     fn write(part: &mut [u8], value: u32)
         ensures { part.new ≡ stored bytes part.old 0 value };
 
+    // One byte to four: they touch at most two slots.
     ghost few: { (1 ≤ bytes) × (bytes ≤ 4) };
 }
 

@@ -7,7 +7,7 @@
 ghost use Rattle.std.specs.Prelude.{◌≡◌, ◌+◌, ◌/◌, ◌%◌, ◌<◌, Err};
 ghost use Rattle.numbers.specs.Number.{read_number, width, written_at, room_after};
 
-use refusal::{Refusal, Cause};
+use refusal::{Cause, Refusal};
 
 pub mod refusal; // refusal.rt: why a file is not taken
 

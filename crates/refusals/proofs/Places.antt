@@ -9,5 +9,5 @@ listed version file q (too_long long) = omega arith
 listed version file q (early at n inside small begun short longer) = omega arith
 listed version file q (not_a_number place end some ends no_number none) = omega arith
 listed version file q (other_version n ends stood other none) = omega (arith, width_least n)
-listed version file q (bad_field number place n low high ends stood none) = omega (arith, width_least n)
+listed version file q (bad_field cause place n low high ends stood none) = omega (arith, width_least n)
 listed version file q (surplus place p ends says) = omega arith

@@ -15,7 +15,7 @@ use lib.Dec.{leb, eqb}
 use borrow.Author.Tests.{leb-true, leb-false, eqb-false, eq-eqb}
 use Rattle.std.specs.Prelude.{Ok, Err}
 use Rattle.numbers.specs.declared.refusal.Cause.{Cause}
-use Rattle.numbers.specs.Refusals.{refusal}
+use Rattle.numbers.specs.Refusals.{refusal_number, refusal}
 use Rattle.numbers.specs.declared.Cursor.{Cursor}
 use Rattle.numbers.specs.declared.refusal.Refusal.{Refusal}
 use Rattle.numbers.specs.Number.{Read}
@@ -33,7 +33,7 @@ use Rattle.refusals.specs.Why.{Begins, NoneBegins, part, Why, too_long, early, n
 use Rattle.refusals.proofs.Agreeing.{Agrees, agrees_itself, agrees_cut, agrees_begun, agrees_earlier}
 use Rattle.refusals.proofs.Numbers.{Told, told, begins_none}
 
-number_bounds : (sort : Sort) → (5 ≤ refused_with sort) × (refused_with sort ≤ 6)
+number_bounds : (sort : Sort) → (5 ≤ refusal_number (refused_with sort)) × (refusal_number (refused_with sort) ≤ 6)
 number_bounds count = omega arith
 number_bounds field = omega arith
 
@@ -81,7 +81,7 @@ module _ (version : ℕ) (small : version < 2 ^ 32) (file : List ℕ) (fits : le
         ]
 
     -- a number that is asked for: what `failed` says where it fails its test, and `more` where it passes
-    asked : (why : ℕ) (test : ℕ → Bool) (at : ℕ) (next : List ℕ → ℕ → ℕ → Reading) → at ≤ length file
+    asked : (why : Cause) (test : ℕ → Bool) (at : ℕ) (next : List ℕ → ℕ → ℕ → Reading) → at ≤ length file
         → Others at (λ other. on (judged why test other at) (next other))
         → ((n : ℕ) → test n ≡ false → at + width n ≤ length file → part file at (at + width n) ≡ spell n
         → NoneBegins version (take (at + width n) file) → Why version file (refusal why at))
@@ -144,7 +144,7 @@ refused_why version small file q e = go (leb (length file) (longest version)) re
     go : (t : Bool) → leb (length file) (longest version) ≡ t → Why version file q
     go true is =
         let fits : length file ≤ longest version = leb-true (length file) (longest version) is in
-        asked version small file fits q e 4 (within version version) 0 (λ other n behind. follow (file_plan version) other behind)
+        asked version small file fits q e Cause.Version (within version version) 0 (λ other n behind. follow (file_plan version) other behind)
         (omega arith) (λ other short agrees. read_by_plan other version short)
         (λ n is ends stood none.
         other_version n (omega arith) (rw zero-add at stood)

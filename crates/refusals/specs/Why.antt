@@ -45,9 +45,9 @@ pub data Why (version : ℕ) (file : List ℕ) : Refusal → Type 0 where
       → Why version file (refusal Cause.Version 0)
   -- "5, 6 | count; any other field out of its range or order | its first byte": a number stands at the
   -- place, and no good file begins with the bytes up to its end
-  bad_field : (number place n : ℕ) → 5 ≤ number → number ≤ 6 → place + width n ≤ length file
+  bad_field : (cause : Cause) (place n : ℕ) → 5 ≤ refusal_number cause → refusal_number cause ≤ 6 → place + width n ≤ length file
       → part file place (place + width n) ≡ spell n → NoneBegins version (take (place + width n) file)
-      → Why version file (refusal number place)
+      → Why version file (refusal cause place)
   -- "7 | bytes after the last instruction | the first of them": the bytes before it are a good file
   surplus : (place : ℕ) (p : Program) → place < length file → Says version (take place file) p → Why version file (refusal Cause.Surplus place)
 

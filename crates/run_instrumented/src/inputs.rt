@@ -3,93 +3,65 @@ use std::env::FillError;
 use std::io;
 use std::rt::Env;
 
-// What an argument is.
+// Why an argument gives no number.
 #[derive(Clone, Copy)]
-enum Argument {
-    Number(u32),
+enum ArgumentError {
     NoNumber,
     // There are no more arguments.
     Missing,
 }
 
-// What reading all arguments answers.
-#[derive(Clone, Copy)]
-pub enum Inputs {
-    Count(usize),
-    // One is no number, or there are too many, and standard error says so.
-    Mistaken,
-}
-
-// The largest number.
-const LARGEST: u64 = 4294967295;
-
 // More digits than this are not looked at.
 const MOST_DIGITS: usize = 64;
 
-// A number with one digit more; whatever is above the largest number stays there.
-fn joined(value: u64, digit: u8) -> u64 {
-    if LARGEST < value {
-        return value;
+// The number that a text of digits spells. An empty text spells none, and a sign is no digit.
+fn number_in(text: &[u8]) -> Option<u32> {
+    if text.is_empty() {
+        return None;
     }
-    value * 10 + (digit as u64)
-}
-
-// The number that a text of digits spells. An empty text spells none.
-fn number_in(text: &[u8]) -> Argument {
-    if text.len() == 0 {
-        return Argument::NoNumber;
-    }
-    let mut value = 0u64;
-    let mut i = 0;
-    while i < text.len() {
-        let byte = text[i];
-        if byte < 48 || 57 < byte {
-            return Argument::NoNumber;
+    let mut value = 0u32;
+    for &byte in text {
+        if byte < b'0' || b'9' < byte {
+            return None;
         }
-        value = joined(value, byte - 48);
-        i += 1;
+        let digit = u32::from(byte - b'0');
+        value = value.checked_mul(10)?.checked_add(digit)?;
     }
-    if LARGEST < value {
-        return Argument::NoNumber;
-    }
-    Argument::Number(value as u32)
+    Some(value)
 }
 
 // The argument with this number. One that is too long for the text is no number.
-fn number_given(rt: &impl Env, i: usize) -> Argument {
+fn number_given(rt: &impl Env, i: usize) -> Result<u32, ArgumentError> {
     let mut text = [0u8; MOST_DIGITS];
     match rt.arg(i, &mut text) {
-        Ok(length) => number_in(&text[..length]),
-        Err(FillError::TooLong) => Argument::NoNumber,
-        Err(FillError::NotPresent) => Argument::Missing,
+        Ok(length) => number_in(&text[..length]).ok_or(ArgumentError::NoNumber),
+        Err(FillError::TooLong) => Err(ArgumentError::NoNumber),
+        Err(FillError::NotPresent) => Err(ArgumentError::Missing),
     }
 }
 
-fn complain(rt: &impl Eprint, i: usize) -> io::Result<()> {
-    eprintln!(rt; "input {i} is no decimal number from 0 to 4294967295")
-}
-
-// Puts the arguments behind the program's name into the room and answers how many there are; or says
-// what is wrong.
-pub(crate) fn read_inputs(rt: &(impl Env + Eprint), room: &mut [u32]) -> io::Result<Inputs> {
+// Puts the arguments behind the program's name into the room and answers how many there are; where one is no
+// number or there are too many, `None`, and standard error says so.
+pub(crate) fn read_inputs(
+    rt: &(impl Env + Eprint),
+    room: &mut [u32],
+) -> io::Result<Option<usize>> {
     let most = room.len();
-    let mut i = 1;
-    while i <= most {
-        match number_given(rt, i) {
-            Argument::Number(n) => {
-                room[i - 1] = n;
+    for i in 0..most {
+        match number_given(rt, i + 1) {
+            Ok(n) => {
+                room[i] = n;
             }
-            Argument::NoNumber => {
-                complain(rt, i)?;
-                return Ok(Inputs::Mistaken);
+            Err(ArgumentError::NoNumber) => {
+                eprintln!(rt; "input {} is no decimal number from 0 to 4294967295", i + 1)?;
+                return Ok(None);
             }
-            Argument::Missing => return Ok(Inputs::Count(i - 1)),
+            Err(ArgumentError::Missing) => return Ok(Some(i)),
         }
-        i += 1;
     }
-    if let Argument::Missing = number_given(rt, i) {
-        return Ok(Inputs::Count(most));
+    if let Err(ArgumentError::Missing) = number_given(rt, most + 1) {
+        return Ok(Some(most));
     }
     eprintln!(rt; "too many inputs")?;
-    Ok(Inputs::Mistaken)
+    Ok(None)
 }

@@ -6,14 +6,9 @@
 #![tactic(auto)]
 
 mod inputs; // inputs.rt: the arguments as numbers
-mod printing; // printing.rt: the lines on standard output
 
-ghost use Rattle.std.specs.Prelude.{◌≤◌, IfOk, length};
-
-use inputs::{Inputs, read_inputs};
-use printing::{print_line, print_outputs};
+use inputs::read_inputs;
 use std::io;
-use std::io::Read;
 use std::rt::Env;
 use stops::Run;
 
@@ -44,9 +39,11 @@ fn run_and_print(
     room: &mut [u32],
 ) -> io::Result<()> {
     let run = run_file(version, limit, file, input, room);
-    let five = stops::numbers_of(run);
-    print_line(rt, five[0], five[1], five[2], five[3], five[4])?;
-    print_outputs(rt, room, run.out)
+    println!(rt; "{run}")?;
+    for n in room.iter().take(run.out) {
+        println!(rt; "{n}")?;
+    }
+    Ok(())
 }
 
 // Runs with a room of this many numbers.
@@ -69,43 +66,27 @@ fn run_in_room(
 
 // Runs with these words: version, limit, room, and the inputs.
 fn run_on(rt: &(impl Print + Eprint), file: &[u8], words: &[u32]) -> io::Result<()> {
-    if words.len() < 3 {
+    let [version, limit, size, input @ ..] = words else {
         return eprintln!(rt; "version, limit and room are missing");
-    }
-    run_in_room(rt, words[0], words[1], words[2], file, &words[3..])
+    };
+    run_in_room(rt, *version, *limit, *size, file, input)
 }
 
-fn run_with(rt: &(impl Print + Eprint + Env), file: &[u8], room: &mut [u32]) -> io::Result<()> {
-    let answer = read_inputs(rt, room)?;
-    let Inputs::Count(count) = answer else {
+fn run_with(rt: &(impl Print + Eprint + Env), file: &[u8]) -> io::Result<()> {
+    let mut words = [0u32; MOST_WORDS];
+    let Some(count) = read_inputs(rt, &mut words)? else {
         return Ok(());
     };
-    if count <= room.len() {
-        return run_on(rt, file, &room[..count]);
+    match words.get(..count) {
+        Some(given) => run_on(rt, file, given),
+        None => Ok(()),
     }
-    Ok(())
-}
-
-// Reads until the buffer is full or the input ends, and returns how many bytes that were.
-fn read_full(input: &mut impl Read, buffer: &mut [u8]) -> io::Result<usize>
-    ensures { IfOk result (λ n. n ≤ length buffer.new) }
-{
-    let mut done = 0;
-    while done < buffer.len() {
-        let n = input.read(&mut buffer[done..])?;
-        if n == 0 {
-            break;
-        }
-        done += n;
-    }
-    Ok(done)
 }
 
 fn main(rt: HostRuntime) -> io::Result<()> {
     let mut file = [0u8; LONGEST];
-    let mut words = [0u32; MOST_WORDS];
-    match read_full(&mut rt.stdin(), &mut file) {
-        Ok(length) => run_with(&rt, &file[..length], &mut words),
+    match input::read_full(&mut rt.stdin(), &mut file) {
+        Ok(length) => run_with(&rt, &file[..length]),
         // As where standard input is a folder.
         Err(e) => eprintln!(rt; "standard input: {e}"),
     }

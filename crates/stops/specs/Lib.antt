@@ -1,2 +1,1 @@
 pub mod Stop
-pub mod Held

@@ -4,7 +4,8 @@
 ghost use Rattle.std.specs.Prelude.{◌≡◌};
 ghost use Rattle.stops.specs.Stop.{number_of, place_for, refused_run, five_of};
 
-use numbers::Refusal;
+use numbers::refusal::Refusal;
+use std::fmt;
 
 pub mod place; // place.rt: the place of a stop, and its record
 
@@ -48,41 +49,34 @@ pub fn refused(why: Refusal) -> Run
     }
 }
 
-// The number of each reason, as 01 lists them.
-fn number_of(reason: Reason) -> u8
-    ensures { result ≡ number_of reason }
-{
-    match reason {
-        Reason::Finished => 0,
-        Reason::PastEnd => 30,
-        Reason::LimitUsed => 31,
-        Reason::NoInput => 32,
-        Reason::NoRoom => 33,
-        Reason::ReadOutside => 34,
-        Reason::StoreOutside => 35,
-        Reason::Forbidden => 36,
-        Reason::BadFree => 37,
-        Reason::Unsound => 38,
-        Reason::Refused(q) => q.number,
+impl Reason {
+    // The number of each reason, as 01 lists them.
+    fn number(self) -> u8
+        ensures { result ≡ number_of self }
+    {
+        match self {
+            Reason::Finished => 0,
+            Reason::PastEnd => 30,
+            Reason::LimitUsed => 31,
+            Reason::NoInput => 32,
+            Reason::NoRoom => 33,
+            Reason::ReadOutside => 34,
+            Reason::StoreOutside => 35,
+            Reason::Forbidden => 36,
+            Reason::BadFree => 37,
+            Reason::Unsound => 38,
+            Reason::Refused(why) => why.cause.number(),
+        }
     }
-}
 
-// The place that goes with a reason: a refusal has its own.
-fn place_for(reason: Reason, place: usize) -> usize
-    ensures { result ≡ place_for reason place }
-{
-    match reason {
-        Reason::Finished => place,
-        Reason::PastEnd => place,
-        Reason::LimitUsed => place,
-        Reason::NoInput => place,
-        Reason::NoRoom => place,
-        Reason::ReadOutside => place,
-        Reason::StoreOutside => place,
-        Reason::Forbidden => place,
-        Reason::BadFree => place,
-        Reason::Unsound => place,
-        Reason::Refused(q) => q.place,
+    // The place that goes with a reason: a refusal has its own.
+    fn place_for(self, place: usize) -> usize
+        ensures { result ≡ place_for self place }
+    {
+        match self {
+            Reason::Refused(why) => why.place,
+            _ => place,
+        }
     }
 }
 
@@ -90,14 +84,31 @@ fn place_for(reason: Reason, place: usize) -> usize
 pub fn numbers_of(run: Run) -> [u64; 5]
     ensures { result ≡ five_of run }
 {
-    let reason = run.reason;
-    let number = number_of(reason) as u64;
-    let place = place_for(reason, run.place) as u64;
+    let number = run.reason.number();
+    let place = run.reason.place_for(run.place);
     [
-        number,
-        place,
+        number as u64,
+        place as u64,
         run.steps as u64,
         run.out as u64,
         run.taken as u64,
     ]
+}
+
+// The five numbers with single blanks; of a refusal its number and place.
+impl fmt::Display for Run {
+    fn fmt<W: fmt::Write>(&self, f: &mut fmt::Formatter<W>) -> fmt::Result {
+        match self.reason {
+            Reason::Refused(why) => write!(f, "{why}"),
+            reason => write!(
+                f,
+                "{} {} {} {} {}",
+                reason.number(),
+                self.place,
+                self.steps,
+                self.out,
+                self.taken
+            ),
+        }
+    }
 }

@@ -1,56 +1,53 @@
 // The record of a stop: a place counts the instructions before it that are not checks.
-ghost use Rattle.std.specs.Prelude.{◌≡◌};
+ghost use Rattle.std.specs.Prelude.{◌≡◌, ◌==◌};
 ghost use Rattle.opcodes.specs.View.{view};
-ghost use Rattle.stops.specs.Stop.{counts, place_in, record_of};
-ghost use Rattle.stops.specs.Held.{code_of};
+ghost use Rattle.stops.specs.Stop.{counts, places_in, place_in, record_of};
 
 use super::{Reason, Run};
-use files::Line;
 use opcodes::Instr;
 
-// 1 for an instruction that is no check.
-fn count(i: Instr) -> usize
-    ensures { result ≡ counts (view i) }
+// Whether an instruction is a check, which no place counts.
+fn is_check(i: Instr) -> bool
+    ensures { result ≡ (counts (view i) == 0) }
 {
-    match i {
-        Instr::Check8(_, _) => 0,
-        Instr::Check32(_, _) => 0,
-        Instr::CheckPut8(_, _, _) => 0,
-        Instr::CheckPut32(_, _, _) => 0,
-        _ => 1,
-    }
+    matches!(
+        i,
+        Instr::Check8(_, _)
+            | Instr::Check32(_, _)
+            | Instr::CheckPut8(_, _, _)
+            | Instr::CheckPut32(_, _, _)
+    )
 }
 
-// The place of an instruction: counted once, at the stop. Of the array the first `lines` are the code.
-pub fn place_of(code: [Line; 2000], lines: usize, at: usize) -> usize
-    ensures { result ≡ place_in (code_of code lines) at }
+// How many instructions are no checks.
+#[tactic(auto, using(crate::proofs::Places::places_counted))]
+fn places_in(code: &[Instr]) -> usize
+    ensures { result ≡ places_in code.now }
 {
-    let mut place = 0;
-    let mut i = 0;
-    while i < 2000 && i < lines && i < at {
-        let line = code[i];
-        let instr = line.instr;
-        place += count(instr);
-        i += 1;
-    }
-    place
+    code.iter().filter(|i| !is_check(**i)).count()
+}
+
+// The place of the instruction `at`: counted once, at the stop.
+pub fn place_of(code: &[Instr], at: usize) -> usize
+    ensures { result ≡ place_in code.now at }
+{
+    places_in(&code[..at.min(code.len())])
 }
 
 // The record of a stop before the instruction `at`.
 pub fn recorded(
-    code: [Line; 2000],
-    lines: usize,
+    code: &[Instr],
     at: usize,
     steps: u32,
     out: usize,
     taken: usize,
     reason: Reason,
 ) -> Run
-    ensures { result ≡ record_of (code_of code lines) at steps out taken reason }
+    ensures { result ≡ record_of code.now at steps out taken reason }
 {
     Run {
         reason,
-        place: place_of(code, lines, at),
+        place: place_of(code, at),
         steps,
         out,
         taken,

@@ -6,12 +6,12 @@ use mathlib.Core.List.{List, [], ◌∷◌}
 use denote.Ref.{Bor}
 use Rattle.reader.specs.declared.Reader.{Reader}
 use Rattle.opcodes.specs.declared.Instr.{Instr}
-use Rattle.checks.specs.declared.Before.{Before}
+use Rattle.std.specs.Prelude.{Option, Some, None}
 use Rattle.checks.specs.Held.{as_list}
 use Rattle.stops.specs.declared.Run.{Run}
 use Rattle.machine.specs.Running.{Lent, Answer, lent_of, answered}
 use Rattle.unique.specs.Once.{Once}
-use Rattle.unique.specs.Once.{numbers_read_number, numbers_number_width, numbers_write_number}
+use Rattle.unique.specs.Once.{numbers_number, numbers_read_number, numbers_number_width, numbers_write_number}
 use Rattle.unique.specs.Once.{reader_open, reader_after, reader_number, reader_read_at}
 use Rattle.unique.specs.Once.{table_row_of, table_has_opcode}
 use Rattle.unique.specs.Once.{opcodes_has_group, opcodes_is_present, opcodes_is_within, opcodes_is_color, opcodes_is_allowed, opcodes_extent_of}
@@ -22,7 +22,7 @@ use Rattle.unique.specs.Once.{safety_by_opcode, safety_nature_of}
 use Rattle.unique.specs.Once.{checks_copy_of, checks_check_before}
 use Rattle.unique.specs.Once.{coloring_read_colored}
 use Rattle.unique.specs.Once.{layout_lay_out}
-use Rattle.unique.specs.Once.{memory_fill, memory_load8, memory_load32, memory_number_at, memory_store8, memory_store32, memory_check8, memory_check32, memory_paint, memory_are_exact}
+use Rattle.unique.specs.Once.{memory_bytes, memory_read, memory_write, memory_fill, memory_load, memory_number_at, memory_store, memory_check, memory_paint, memory_are_exact}
 use Rattle.unique.specs.Once.{heap_start, heap_alloc, heap_free}
 use Rattle.unique.specs.Once.{instrumenter_instrument}
 use Rattle.unique.specs.Once.{start_lay}
@@ -58,6 +58,9 @@ lent_once a b p q =
 
 -- ---- numbers
 
+pub numbers_number_once : numbers_number
+numbers_number_once self = once
+
 pub numbers_read_number_once : numbers_read_number
 numbers_read_number_once file from = once
 
@@ -73,10 +76,10 @@ pub reader_open_once : reader_open
 reader_open_once file = reader_once
 
 pub reader_after_once : reader_after
-reader_after_once r read = reader_once
+reader_after_once self read = reader_once
 
 pub reader_number_once : reader_number
-reader_number_once r = once
+reader_number_once self = once
 
 pub reader_read_at_once : reader_read_at
 reader_read_at_once file from = once
@@ -102,7 +105,7 @@ pub opcodes_is_color_once : opcodes_is_color
 opcodes_is_color_once n = once
 
 pub opcodes_is_allowed_once : opcodes_is_allowed
-opcodes_is_allowed_once kinds scope kind n = once
+opcodes_is_allowed_once objects scope kind n = once
 
 -- ---- instructions
 
@@ -134,7 +137,7 @@ pub safety_by_opcode_once : safety_by_opcode
 safety_by_opcode_once opcode x y z w size = once
 
 pub safety_nature_of_once : safety_nature_of
-safety_nature_of_once i sizes = once
+safety_nature_of_once i objects = once
 
 -- ---- checks
 
@@ -142,16 +145,16 @@ pub checks_copy_of_once : checks_copy_of
 checks_copy_of_once i places = once
 
 -- what stands before a copy, as a list, says which it is
-abbrev of_list : List Instr → Before
-of_list [] = Before.Nothing
-of_list (i ∷ is) = Before.Check i
+abbrev of_list : List Instr → Option Instr
+of_list [] = None
+of_list (i ∷ is) = Some i
 
-back : (b : Before) → of_list (as_list b) ≡ b
-back Before.Nothing = refl
-back (Before.Check i) = refl
+back : (b : Option Instr) → of_list (as_list b) ≡ b
+back None = refl
+back (Some i) = refl
 
 pub checks_check_before_once : checks_check_before
-checks_check_before_once i sizes colors ends members a b p q = sym (back a) ∙ ap of_list (p ∙ sym q) ∙ back b
+checks_check_before_once i objects ends members a b p q = sym (back a) ∙ ap of_list (p ∙ sym q) ∙ back b
 
 -- ---- coloring
 
@@ -161,33 +164,33 @@ coloring_read_colored_once file = once
 -- ---- layout
 
 pub layout_lay_out_once : layout_lay_out
-layout_lay_out_once kinds sizes colors objects = once
+layout_lay_out_once objects = once
 
--- ---- memory
+-- ---- memory: a width is known by how many bytes it covers
+
+pub memory_bytes_once : memory_bytes
+memory_bytes_once bytes = once
+
+pub memory_read_once : memory_read
+memory_read_once bytes part = once
+
+pub memory_write_once : memory_write
+memory_write_once bytes part value = once
 
 pub memory_fill_once : memory_fill
 memory_fill_once part value = once
 
-pub memory_load8_once : memory_load8
-memory_load8_once memory address = once
-
-pub memory_load32_once : memory_load32
-memory_load32_once memory address = once
+pub memory_load_once : memory_load
+memory_load_once bytes memory address = once
 
 pub memory_number_at_once : memory_number_at
 memory_number_at_once memory address = once
 
-pub memory_store8_once : memory_store8
-memory_store8_once memory address value = pair_once
+pub memory_store_once : memory_store
+memory_store_once bytes memory address value = pair_once
 
-pub memory_store32_once : memory_store32
-memory_store32_once memory address value = pair_once
-
-pub memory_check8_once : memory_check8
-memory_check8_once table address color = once
-
-pub memory_check32_once : memory_check32
-memory_check32_once table address color = once
+pub memory_check_once : memory_check
+memory_check_once bytes table address color = once
 
 pub memory_paint_once : memory_paint
 memory_paint_once table address count color = once
@@ -214,7 +217,7 @@ instrumenter_instrument_once file room = pair_once
 -- ---- start
 
 pub start_lay_once : start_lay
-start_lay_once kinds sizes colors objects memory table = triple_once
+start_lay_once objects memory table = triple_once
 
 -- ---- stops
 
@@ -225,10 +228,10 @@ pub stops_numbers_of_once : stops_numbers_of
 stops_numbers_of_once run = once
 
 pub stops_place_of_once : stops_place_of
-stops_place_of_once code lines at = once
+stops_place_of_once code at = once
 
 pub stops_recorded_once : stops_recorded
-stops_recorded_once code lines at steps out taken reason = once
+stops_recorded_once code at steps out taken reason = once
 
 -- ---- machine
 

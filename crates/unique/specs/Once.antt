@@ -1,11 +1,12 @@
 -- 01: "From two answers that satisfy it, equality is proved." A statement for each public function, by
 -- crate and name. What it promises is the function's contract: r is what is returned, a lent buffer's
 -- name is what it holds before, and the name with a mark what it holds afterwards.
-use Rattle.std.specs.Prelude.{ℕ, ◌≡◌, List, [], ◌∷◌, Bool, length, get_or, replicate}
+use Rattle.std.specs.Prelude.{ℕ, ◌≡◌, List, [], ◌∷◌, Bool, Option, Result, length, get_or, replicate}
 use Rattle.std.specs.Borrow.{Bor}
 use Rattle.numbers.specs.declared.Cursor.{Cursor}
+use Rattle.numbers.specs.declared.refusal.Cause.{Cause}
 use Rattle.numbers.specs.declared.refusal.Refusal.{Refusal}
-use Rattle.numbers.specs.declared.Written.{Written}
+use Rattle.numbers.specs.Refusals.{refusal_number}
 use Rattle.numbers.specs.Number.{read_number, width, written_at, room_after}
 use Rattle.reader.specs.declared.Reader.{Reader}
 use Rattle.opcodes.specs.declared.Instr.{Instr}
@@ -14,14 +15,16 @@ use Rattle.opcodes.specs.declared.Operand.{Operand}
 use Rattle.opcodes.specs.declared.Scope.{Scope}
 use Rattle.opcodes.specs.Table.{row_of, make, parts_of}
 use Rattle.instructions.specs.Making.{made}
-use Rattle.opcodes.specs.Ranges.{has_group, has_opcode, within, is_color, present, scope_over, allowed}
+use Rattle.opcodes.specs.Ranges.{has_group, has_opcode, within, is_color, present, kinds_of, scope_over, allowed}
 use Rattle.opcodes.specs.View.{view, extent}
-use Rattle.files.specs.declared.Line.{Line}
-use Rattle.files.specs.declared.Loaded.{Loaded}
-use Rattle.files.specs.declared.Written as FileWritten
+use Rattle.opcodes.specs.declared.Object.{Object}
+use Rattle.files.specs.declared.arrays.Loaded.{Loaded}
+use Rattle.files.specs.declared.arrays.Objects.{Objects}
+use Rattle.files.specs.declared.WriteError.{WriteError}
 use Rattle.files.specs.Reading.{read_file}
 use Rattle.files.specs.Held.{held, written_in, room_with}
-use Rattle.safety.specs.Nature.{nature_of, sizes_in}
+use Rattle.safety.specs.Unsafe.{size_of}
+use Rattle.safety.specs.Nature.{nature_of}
 use Rattle.instructions.specs.Moved.{moved}
 use Rattle.checks.specs.Held.{as_list, check_in}
 use Rattle.coloring.specs.Colored.{colored}
@@ -29,17 +32,14 @@ use Rattle.layout.specs.Arrays.{pieces_in, layout_of}
 use Rattle.memory.specs.Memory.{exact, has_color, every_byte}
 use Rattle.memory.specs.Lent
 use Rattle.memory.specs.Lent.{number_within, loaded, stored, painted}
-use Rattle.heap.specs.declared.Allocation.{Allocation}
-use Rattle.heap.specs.declared.Release.{Release}
+use Rattle.heap.specs.declared.HeapError.{HeapError}
 use Rattle.heap.specs.Lent.{allocated, released, started}
-use Rattle.instrumenter.specs.declared.Instrumented.{Instrumented}
 use Rattle.instrumenter.specs.Answer.{instrument, told, room_holding}
 use Rattle.start.specs.declared.Laid.{Laid}
 use Rattle.start.specs.Held.{laid_start}
 use Rattle.stops.specs.declared.Reason.{Reason}
 use Rattle.stops.specs.declared.Run.{Run}
 use Rattle.stops.specs.Stop.{refused_run, five_of, place_in, record_of}
-use Rattle.stops.specs.Held.{code_of}
 use Rattle.machine.specs.Running.{lent_of, answered, run_file}
 use Rattle.controller.specs.Control.{control}
 
@@ -48,6 +48,9 @@ abbrev pub Once : {A : Type 0} → (A → Type 0) → Type 0
 Once {A} Promise = (a b : A) → Promise a → Promise b → a ≡ b
 
 -- ---- numbers
+
+abbrev pub numbers_number : Type 0
+numbers_number = (self : Cause) → Once (λ r. r ≡ refusal_number self)
 
 abbrev pub numbers_read_number : Type 0
 numbers_read_number = (file : List ℕ) (from : Cursor) → Once (λ r. r ≡ read_number file from.at)
@@ -58,7 +61,7 @@ numbers_number_width = (n : ℕ) → Once (λ r. r ≡ width n)
 abbrev pub numbers_write_number : Type 0
 numbers_write_number =
     (room : List ℕ) (at n : ℕ)
-    → Once {A = Written × List ℕ} (λ (r, room'). (r ≡ written_at room at n) × (room' ≡ room_after room at n))
+    → Once {A = Option ℕ × List ℕ} (λ (r, room'). (r ≡ written_at room at n) × (room' ≡ room_after room at n))
 
 -- ---- reader: a reader holds the reference to a file's bytes, which `now` reads
 
@@ -66,10 +69,10 @@ abbrev pub reader_open : Type 0
 reader_open = (file : Bor (List ℕ)) → Once {A = Reader} (λ r. (r.file ≡ file) × (r.at ≡ 0))
 
 abbrev pub reader_after : Type 0
-reader_after = (r : Reader) (read : Cursor) → Once {A = Reader} (λ q. (q.file ≡ r.file) × (q.at ≡ read.at))
+reader_after = (self : Reader) (read : Cursor) → Once {A = Reader} (λ q. (q.file ≡ self.file) × (q.at ≡ read.at))
 
 abbrev pub reader_number : Type 0
-reader_number = (r : Reader) → Once (λ n. n ≡ read_number r.file.now r.at)
+reader_number = (self : Reader) → Once (λ r. r ≡ read_number self.file.now self.at)
 
 abbrev pub reader_read_at : Type 0
 reader_read_at = (file : List ℕ) (from : Cursor) → Once (λ r. r ≡ read_number file from.at)
@@ -96,7 +99,8 @@ opcodes_is_color = (n : ℕ) → Once (λ r. r ≡ is_color n)
 
 abbrev pub opcodes_is_allowed : Type 0
 opcodes_is_allowed =
-    (kinds : List ℕ) (scope : Scope) (kind : Operand) (n : ℕ) → Once (λ r. r ≡ allowed (scope_over scope kinds) kind n)
+    (objects : List Object) (scope : Scope) (kind : Operand) (n : ℕ)
+    → Once (λ r. r ≡ allowed (scope_over scope (kinds_of objects)) kind n)
 
 -- ---- instructions
 
@@ -122,7 +126,7 @@ files_read_program = (file : List ℕ) → Once (λ r. r ≡ held (read_file 2 f
 abbrev pub writer_write_program : Type 0
 writer_write_program =
     (p : Loaded) (room : List ℕ)
-    → Once {A = FileWritten.Written × List ℕ} (λ (r, room'). (r ≡ written_in room p) × (room' ≡ room_with room p))
+    → Once {A = Result ℕ WriteError × List ℕ} (λ (r, room'). (r ≡ written_in room p) × (room' ≡ room_with room p))
 
 -- ---- safety
 
@@ -130,7 +134,7 @@ abbrev pub safety_by_opcode : Type 0
 safety_by_opcode = (opcode x y z w size : ℕ) → Once (λ r. r ≡ nature_of (λ g. size) (view (make opcode (x ∷ y ∷ z ∷ w ∷ []))))
 
 abbrev pub safety_nature_of : Type 0
-safety_nature_of = (i : Instr) (sizes : List ℕ) → Once (λ r. r ≡ nature_of (sizes_in sizes) (view i))
+safety_nature_of = (i : Instr) (objects : List Object) → Once (λ r. r ≡ nature_of (size_of objects) (view i))
 
 -- ---- checks
 
@@ -139,7 +143,7 @@ checks_copy_of = (i : Instr) (places : List ℕ) → Once (λ r. r ≡ moved (λ
 
 abbrev pub checks_check_before : Type 0
 checks_check_before =
-    (i : Instr) (sizes colors ends members : List ℕ) → Once (λ r. as_list r ≡ check_in sizes colors ends members i)
+    (i : Instr) (objects : List Object) (ends members : List ℕ) → Once (λ r. as_list r ≡ check_in objects ends members i)
 
 -- ---- coloring
 
@@ -149,38 +153,35 @@ coloring_read_colored = (file : List ℕ) → Once (λ r. r ≡ held (colored (r
 -- ---- layout
 
 abbrev pub layout_lay_out : Type 0
-layout_lay_out =
-    (kinds sizes colors : List ℕ) (objects : ℕ) → Once (λ r. r ≡ layout_of (pieces_in kinds sizes colors objects))
+layout_lay_out = (objects : Objects) → Once (λ r. r ≡ layout_of (pieces_in objects))
 
--- ---- memory
+-- ---- memory: a width is known by how many bytes it covers
+
+abbrev pub memory_bytes : Type 0
+memory_bytes = (bytes : ℕ) → Once (λ r. r ≡ bytes)
+
+abbrev pub memory_read : Type 0
+memory_read = (bytes : ℕ) (part : List ℕ) → Once (λ r. r ≡ loaded bytes part 0)
+
+abbrev pub memory_write : Type 0
+memory_write = (bytes : ℕ) (part : List ℕ) (value : ℕ) → Once (λ part'. part' ≡ stored bytes part 0 value)
 
 abbrev pub memory_fill : Type 0
 memory_fill = (part : List ℕ) (value : ℕ) → Once (λ part'. part' ≡ replicate (length part) value)
 
-abbrev pub memory_load8 : Type 0
-memory_load8 = (memory : List ℕ) (address : ℕ) → Once (λ r. r ≡ loaded 1 memory address)
-
-abbrev pub memory_load32 : Type 0
-memory_load32 = (memory : List ℕ) (address : ℕ) → Once (λ r. r ≡ loaded 4 memory address)
+abbrev pub memory_load : Type 0
+memory_load = (bytes : ℕ) (memory : List ℕ) (address : ℕ) → Once (λ r. r ≡ loaded bytes memory address)
 
 abbrev pub memory_number_at : Type 0
 memory_number_at = (memory : List ℕ) (address : ℕ) → Once (λ r. r ≡ number_within 4 memory address)
 
-abbrev pub memory_store8 : Type 0
-memory_store8 =
-    (memory : List ℕ) (address value : ℕ)
-    → Once {A = Bool × List ℕ} (λ (r, memory'). (r ≡ Lent.within 1 memory address) × (memory' ≡ stored 1 memory address value))
+abbrev pub memory_store : Type 0
+memory_store =
+    (bytes : ℕ) (memory : List ℕ) (address value : ℕ)
+    → Once {A = Bool × List ℕ} (λ (r, memory'). (r ≡ Lent.within bytes memory address) × (memory' ≡ stored bytes memory address value))
 
-abbrev pub memory_store32 : Type 0
-memory_store32 =
-    (memory : List ℕ) (address value : ℕ)
-    → Once {A = Bool × List ℕ} (λ (r, memory'). (r ≡ Lent.within 4 memory address) × (memory' ≡ stored 4 memory address value))
-
-abbrev pub memory_check8 : Type 0
-memory_check8 = (table : List ℕ) (address color : ℕ) → Once (λ r. r ≡ every_byte 1 (has_color table color) address)
-
-abbrev pub memory_check32 : Type 0
-memory_check32 = (table : List ℕ) (address color : ℕ) → Once (λ r. r ≡ every_byte 4 (has_color table color) address)
+abbrev pub memory_check : Type 0
+memory_check = (bytes : ℕ) (table : List ℕ) (address color : ℕ) → Once (λ r. r ≡ every_byte bytes (has_color table color) address)
 
 abbrev pub memory_paint : Type 0
 memory_paint = (table : List ℕ) (address count color : ℕ) → Once (λ table'. table' ≡ painted table address count color)
@@ -196,7 +197,7 @@ heap_start = (memory : List ℕ) → Once (λ memory'. memory' ≡ started memor
 abbrev pub heap_alloc : Type 0
 heap_alloc =
     (memory table : List ℕ) (size site color : ℕ)
-    → Once {A = Allocation × List ℕ × List ℕ}
+    → Once {A = Result (Option ℕ) HeapError × List ℕ × List ℕ}
     (λ (r, memory', table').
     (r ≡ (allocated memory table size site color).answer)
     × (memory' ≡ (allocated memory table size site color).memory)
@@ -205,7 +206,7 @@ heap_alloc =
 abbrev pub heap_free : Type 0
 heap_free =
     (memory table : List ℕ) (address : ℕ)
-    → Once {A = Release × List ℕ × List ℕ}
+    → Once {A = Result Unit HeapError × List ℕ × List ℕ}
     (λ (r, memory', table').
     (r ≡ (released memory table address).answer)
     × (memory' ≡ (released memory table address).memory)
@@ -216,19 +217,19 @@ heap_free =
 abbrev pub instrumenter_instrument : Type 0
 instrumenter_instrument =
     (file room : List ℕ)
-    → Once {A = Instrumented × List ℕ}
+    → Once {A = Result ℕ Refusal × List ℕ}
     (λ (r, room'). (r ≡ told (instrument file (length room))) × (room' ≡ room_holding room (instrument file (length room))))
 
 -- ---- start
 
 abbrev pub start_lay : Type 0
 start_lay =
-    (kinds sizes colors : List ℕ) (objects : ℕ) (memory table : List ℕ)
+    (objects : Objects) (memory table : List ℕ)
     → Once {A = Laid × List ℕ × List ℕ}
     (λ (r, memory', table').
-    (r ≡ (laid_start kinds sizes colors objects memory table).answer)
-    × (memory' ≡ (laid_start kinds sizes colors objects memory table).memory)
-    × (table' ≡ (laid_start kinds sizes colors objects memory table).table))
+    (r ≡ (laid_start objects memory table).answer)
+    × (memory' ≡ (laid_start objects memory table).memory)
+    × (table' ≡ (laid_start objects memory table).table))
 
 -- ---- stops
 
@@ -239,12 +240,12 @@ abbrev pub stops_numbers_of : Type 0
 stops_numbers_of = (run : Run) → Once (λ r. r ≡ five_of run)
 
 abbrev pub stops_place_of : Type 0
-stops_place_of = (code : List Line) (lines at : ℕ) → Once (λ r. r ≡ place_in (code_of code lines) at)
+stops_place_of = (code : List Instr) (at : ℕ) → Once (λ r. r ≡ place_in code at)
 
 abbrev pub stops_recorded : Type 0
 stops_recorded =
-    (code : List Line) (lines at steps out taken : ℕ) (reason : Reason)
-    → Once (λ r. r ≡ record_of (code_of code lines) at steps out taken reason)
+    (code : List Instr) (at steps out taken : ℕ) (reason : Reason)
+    → Once (λ r. r ≡ record_of code at steps out taken reason)
 
 -- ---- machine
 

@@ -4,9 +4,7 @@
 -- changed (`write_program`: equations with `written_in` and `room_with` of files/specs/Held.antt). That what
 -- is written reads back is a law of those definitions, in `files` (RoundTrip).
 --
--- How the code comes to it: the first pass adds up lengths and stops at the first field that no file says
--- (`Lengths`); both passes go through the program that the arrays show (`Shown`); the second puts number
--- after number, and what it has put with what is left makes the whole file (`Putting`).
+-- How the code comes to it: the first pass adds up lengths and stops at the first part that no file says
+-- (`Lengths`); the second puts number after number, each behind what is put so far (`Putting`).
 mod Lengths
 mod Putting
-mod Shown

@@ -1,196 +1,119 @@
-// The measuring pass: how many bytes each part of a program takes, and whether a file can say it. Every
+// The measuring pass: how many bytes each part of a program takes; `None` where no file says it. Every
 // field is judged by the table that the reader goes by.
-ghost use Rattle.std.specs.Prelude.{◌≡◌, map, ◌+◌, ◌≤◌, length, take, leb};
-ghost use Rattle.numbers.specs.Number.{width};
-ghost use Rattle.opcodes.specs.Ranges.{within, present, scope_over};
-ghost use Rattle.files.specs.Writing.{spell_if, spell_object, spell_instr, spell_file, both, good_object, good_operand, good_instr};
-ghost use Rattle.files.specs.Held.{tabulate};
-ghost use Rattle.writer.specs.Inside.{measured, object_in, code_measured, objects_measured, shown_in, sayable};
+ghost use Rattle.std.specs.Prelude.{◌≡◌, ℕ, ◌*◌, ◌≤◌, Bool, length, IfSome};
+ghost use Rattle.std.specs.Bool.{then_some};
+ghost use Rattle.opcodes.specs.Ranges.{Scope};
+ghost use Rattle.files.specs.Writing.{spell_all, spell_file, every, good_object, good_operand, good_instr, good_program};
+ghost use Rattle.writer.specs.Inside.{shown_in, scope_in};
 
-use files::Line;
+use super::writing::{Spelled, operands_in};
 use instructions::parts_of;
+use numbers::number_width;
 use opcodes::ranges::{is_allowed, is_color, is_within};
 use opcodes::versions::is_present;
-use opcodes::{Instr, Operand, Scope};
-use table::{has_opcode, row_of};
+use opcodes::{Instr, Object, Operand, Scope};
+use table::has_opcode;
 
-// How many bytes a part of a program takes; `Bad` if no file says it.
-#[derive(Clone, Copy)]
-pub enum Length {
-    Good(usize),
-    Bad,
+// What a file may say, beside what an operand of it may name.
+trait Measured: Spelled {
+    // Whether a file can say it.
+    ghost good: { Scope → Self → Bool };
+
+    // How many bytes it takes at most.
+    ghost most: { ℕ };
+
+    // How many it takes, where objects and so many instructions are what is named.
+    fn length(self, objects: &[Object], lines: usize) -> Option<usize>
+        ensures few { IfSome result (λ bytes. bytes ≤ most) }
+        ensures length { result ≡ then_some (good (scope_in objects.now lines) self) (length (Self.spelling self)) };
 }
 
 // An operand by its kind; one that does not stand in the file has to be 0.
-fn operand_length(kinds: &[u8], scope: Scope, kind: Operand, n: u32) -> Length
-    ensures { result ≡ measured (good_operand (scope_over scope kinds.now) kind n) (length (spell_if (present scope.version kind) n)) }
-{
-    if !is_present(scope.version, kind) {
-        if n != 0 {
-            return Length::Bad;
+impl Measured for (Operand, u32) {
+    ghost good = { λ scope o. good_operand scope o.0 o.1 };
+
+    ghost most = { 5 };
+
+    #[tactic(auto, using(numbers::proofs::Laws::width_most))]
+    fn length(self, objects: &[Object], lines: usize) -> Option<usize> {
+        let (kind, n) = self;
+        if !is_present(2, kind) {
+            return (n == 0).then_some(0);
         }
-        return Length::Good(0);
-    }
-    if !is_allowed(kinds, scope, kind, n) {
-        return Length::Bad;
-    }
-    Length::Good(numbers::number_width(n))
-}
-
-// One instruction.
-fn instr_length(kinds: &[u8], scope: Scope, instr: Instr) -> Length
-    ensures { result ≡ measured (good_instr (scope_over scope kinds.now) instr) (length (spell_instr scope.version instr)) }
-{
-    let parts = parts_of(instr);
-    if !has_opcode(scope.version, parts.op) {
-        return Length::Bad;
-    }
-    let row = row_of(parts.op);
-    let first_kind = row.first;
-    let first = operand_length(kinds, scope, first_kind, parts.x);
-    let Length::Good(x) = first else {
-        return Length::Bad;
-    };
-    let second_kind = row.second;
-    let second = operand_length(kinds, scope, second_kind, parts.y);
-    let Length::Good(y) = second else {
-        return Length::Bad;
-    };
-    let third_kind = row.third;
-    let third = operand_length(kinds, scope, third_kind, parts.z);
-    let Length::Good(z) = third else {
-        return Length::Bad;
-    };
-    let fourth_kind = row.fourth;
-    let fourth = operand_length(kinds, scope, fourth_kind, parts.w);
-    let Length::Good(w) = fourth else {
-        return Length::Bad;
-    };
-    Length::Good(numbers::number_width(parts.op) + x + y + z + w)
-}
-
-// As many instructions as the scope says.
-fn code_length(kinds: &[u8], scope: Scope, code: [Line; 2000]) -> Length
-    requires { scope.lines ≤ 2000 }
-    ensures { result ≡ code_measured (scope_over scope kinds.now) (map (λ x. x.instr) (take scope.lines code)) }
-{
-    let lines = scope.lines;
-    let mut total = 0;
-    for i in 0..lines {
-        let line = code[i];
-        let instr = line.instr;
-        let one = instr_length(kinds, scope, instr);
-        let Length::Good(bytes) = one else {
-            return Length::Bad;
-        };
-        total += bytes;
-    }
-    Length::Good(total)
-}
-
-// One object of version 2.
-fn object_length(kind: u8, size: u16, color: u8) -> Length
-    ensures { result ≡ measured (good_object 2 (record { kind = kind; size = size; color = color })) (length (spell_object 2 (record { kind = kind; size = size; color = color }))) }
-{
-    if !is_color(color as u32) {
-        return Length::Bad;
-    }
-    let shared = numbers::number_width(kind as u32) + numbers::number_width(color as u32);
-    if kind == 0 {
-        if !is_within(1, 4096, size as u32) {
-            return Length::Bad;
-        }
-        return Length::Good(shared + numbers::number_width(size as u32));
-    }
-    if kind != 1 {
-        return Length::Bad;
-    }
-    if size != 0 {
-        return Length::Bad;
-    }
-    Length::Good(shared)
-}
-
-// `count` objects.
-fn objects_length(count: usize, kinds: [u8; 400], sizes: [u16; 400], colors: [u8; 400]) -> Length
-    requires { count ≤ 400 }
-    ensures { result ≡ objects_measured (tabulate (object_in kinds sizes colors) 0 count) }
-{
-    let mut total = 0;
-    for i in 0..count {
-        let one = object_length(kinds[i], sizes[i], colors[i]);
-        let Length::Good(bytes) = one else {
-            return Length::Bad;
-        };
-        total += bytes;
-    }
-    Length::Good(total)
-}
-
-// The instructions, judged over the kinds of the objects that count.
-fn lines_length(count: usize, kinds: [u8; 400], scope: Scope, code: [Line; 2000]) -> Length
-    requires { (count ≤ 400) × (scope.lines ≤ 2000) }
-    ensures { result ≡ code_measured (scope_over scope (take count kinds)) (map (λ x. x.instr) (take scope.lines code)) }
-{
-    code_length(&kinds[..count], scope, code)
-}
-
-// The version and the counts besides the objects and the instructions.
-fn with_counts(count: usize, objects: usize, lines: usize, instrs: usize) -> usize
-    requires { (count ≤ 400) × (objects ≤ 6000) × (lines ≤ 2000) × (instrs ≤ 50000) }
-    ensures { result ≡ width 2 + width count + objects + width lines + instrs }
-{
-    numbers::number_width(2)
-        + numbers::number_width(count as u32)
-        + objects
-        + numbers::number_width(lines as u32)
-        + instrs
-}
-
-// Whether a file can have so many objects and so many instructions.
-fn is_counted(count: usize, lines: usize) -> bool
-    ensures { result ≡ both (leb count 400) (within 1 2000 lines) }
-{
-    if 400 < count {
-        return false;
-    }
-    1 <= lines && lines <= 2000
-}
-
-// The whole file: the version, the counts, the objects and the instructions, no longer than a file may be.
-pub(crate) fn file_length(
-    count: usize,
-    lines: usize,
-    kinds: [u8; 400],
-    sizes: [u16; 400],
-    colors: [u8; 400],
-    code: [Line; 2000],
-) -> Length
-    ensures { result ≡ measured (sayable count lines (shown_in count lines kinds sizes colors code)) (length (spell_file 2 (shown_in count lines kinds sizes colors code))) }
-{
-    if !is_counted(count, lines) {
-        return Length::Bad;
-    }
-    let objects_read = objects_length(count, kinds, sizes, colors);
-    let Length::Good(objects) = objects_read else {
-        return Length::Bad;
-    };
-    let code_read = lines_length(
-        count,
-        kinds,
-        Scope {
+        let scope = Scope {
             version: 2,
             sets: 0,
             lines,
-        },
-        code,
-    );
-    let Length::Good(instrs) = code_read else {
-        return Length::Bad;
-    };
-    let total = with_counts(count, objects, lines, instrs);
-    if 32768 < total {
-        return Length::Bad;
+        };
+        is_allowed(objects, scope, kind, n).then_some(number_width(n))
     }
-    Length::Good(total)
+}
+
+impl Measured for Instr {
+    ghost good = { good_instr };
+
+    ghost most = { 25 };
+
+    #[tactic(auto, using(numbers::proofs::Laws::width_most))]
+    fn length(self, objects: &[Object], lines: usize) -> Option<usize> {
+        let parts = parts_of(self);
+        if !has_opcode(2, parts.op) {
+            return None;
+        }
+        let operands = all_length(&operands_in(parts), objects, lines)?;
+        Some(number_width(parts.op) + operands)
+    }
+}
+
+impl Measured for Object {
+    ghost good = { λ _. good_object 2 };
+
+    ghost most = { 15 };
+
+    #[tactic(auto, using(numbers::proofs::Laws::width_most))]
+    fn length(self, _objects: &[Object], _lines: usize) -> Option<usize> {
+        if !is_color(self.color as u32) {
+            return None;
+        }
+        let shared = number_width(self.kind as u32) + number_width(self.color as u32);
+        if self.kind == 0 {
+            if !is_within(1, 4096, self.size as u32) {
+                return None;
+            }
+            return Some(shared + number_width(self.size as u32));
+        }
+        (self.kind == 1 && self.size == 0).then_some(shared)
+    }
+}
+
+// All of them, one after the other.
+#[tactic(auto, using(crate::proofs::Lengths::totals))]
+fn all_length<T: Measured>(things: &[T], objects: &[Object], lines: usize) -> Option<usize>
+    requires { (length things.now ≤ 2000) × (T.most ≤ 25) }
+    ensures few { IfSome result (λ bytes. bytes ≤ T.most * length things.now) }
+    ensures length { result ≡ then_some (every (T.good (scope_in objects.now lines)) things.now) (length (spell_all T.spelling things.now)) }
+{
+    let mut total = 0;
+    for thing in things {
+        total += thing.length(objects, lines)?;
+    }
+    Some(total)
+}
+
+// The whole file: the version, the counts, the objects and the instructions, no longer than a file may be.
+#[tactic(auto, using(numbers::proofs::Laws::width_most), unfolding(files::specs::Writing::good_program, files::specs::Writing::spell_file))]
+pub(crate) fn file_length(objects: &[Object], code: &[Instr]) -> Option<usize>
+    ensures { result ≡ then_some (good_program 2 (shown_in objects.now code.now)) (length (spell_file 2 (shown_in objects.now code.now))) }
+{
+    if 400 < objects.len() || code.is_empty() || 2000 < code.len() {
+        return None;
+    }
+    let objects_bytes = all_length(objects, objects, code.len())?;
+    let code_bytes = all_length(code, objects, code.len())?;
+    let counts = number_width(objects.len() as u32) + number_width(code.len() as u32);
+    let total = number_width(2) + counts + objects_bytes + code_bytes;
+    if 32768 < total {
+        return None;
+    }
+    Some(total)
 }
