@@ -12,7 +12,7 @@ ghost use Rattle.safety.specs.Nature.{put_nature, nature_of};
 
 use instructions::parts_of;
 use opcodes::extent::extent_of;
-use opcodes::{Instr, Object};
+use opcodes::{Instr, Object, Parts};
 
 // What an instruction is: a store, and of which kind, or something else.
 #[derive(Clone, Copy)]
@@ -61,9 +61,7 @@ pub fn by_opcode(opcode: u32, x: u32, y: u32, z: u32, w: u32, size: u16) -> Natu
 pub fn nature_of(i: Instr, objects: &[Object]) -> Nature
     ensures { result ≡ nature_of (size_of objects.now) (view i) }
 {
-    let parts = parts_of(i);
-    let size = objects
-        .get(parts.x as usize)
-        .map_or(0, |object| object.size);
-    by_opcode(parts.op, parts.x, parts.y, parts.z, parts.w, size)
+    let Parts { op, x, y, z, w } = parts_of(i);
+    let size = objects.get(x as usize).map_or(0, |object| object.size);
+    by_opcode(op, x, y, z, w, size)
 }
