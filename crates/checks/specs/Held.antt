@@ -5,6 +5,7 @@ use Rattle.std.specs.Prelude.{ℕ, ◌-◌, true, false, List, [], ◌∷◌, Op
 use Rattle.opcodes.specs.declared.Instr.{Instr}
 use Rattle.opcodes.specs.declared.Object.{Object}
 use Rattle.opcodes.specs.View.{View, act, jump, jump_if, store, check, view, check_instr}
+use Rattle.files.specs.Held.{blank}
 use Rattle.safety.specs.declared.Nature.{Nature}
 use Rattle.safety.specs.Nature.{nature_of}
 use Rattle.safety.specs.Unsafe.{size_of}
@@ -19,7 +20,7 @@ first_in ends members s = get_or members (set_start ends s) 0
 
 -- the color of an object
 abbrev pub color_at : List Object → (x : ℕ) → ℕ
-color_at objects x = (get_or objects x (record { kind = 0; size = 0; color = 0 })).color
+color_at objects x = (get_or objects x blank).color
 
 -- the check of a store; nothing else is checked
 abbrev pub check_for : View → (color : ℕ) → Instr

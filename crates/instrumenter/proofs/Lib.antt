@@ -24,5 +24,5 @@ mod Turns
 mod Stored
 mod Matching
 mod Version
-pub mod Told
+mod Told
 pub mod Guarded

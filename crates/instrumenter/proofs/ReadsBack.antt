@@ -39,10 +39,10 @@ pub wrote : (bytes : List ℕ) (room : ℕ) (out : List ℕ) → instrument byte
 wrote bytes room out e = go (file out) (rw e at (answered_because bytes room)) refl
   where
     go : (a : FileAnswer) → Because bytes room a → a ≡ file out → Wrote bytes room out
-    go a (unread r) s = let z : ◌≡◌ {A = ℕ} 0 1 = cc in absurd (omega arith)
-    go a (crowded r c) s = let z : ◌≡◌ {A = ℕ} 0 1 = cc in absurd (omega arith)
-    go a (overfull r c f) s = let z : ◌≡◌ {A = ℕ} 0 1 = cc in absurd (omega arith)
-    go a (cramped r c f l) s = let z : ◌≡◌ {A = ℕ} 0 1 = cc in absurd (omega arith)
+    go a (unread r) s = cc
+    go a (crowded r c) s = cc
+    go a (overfull r c f) s = cc
+    go a (cramped r c f l) s = cc
     go a (written {p} r c f l) s =
         let same : new_file p ≡ out = cc in
         record {

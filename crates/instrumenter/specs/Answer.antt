@@ -1,5 +1,5 @@
 -- What the instrumenter answers: a file, or a refusal; "then 8 and 9, last 10".
-use Rattle.std.specs.Prelude.{ℕ, List, ◌++◌, true, false, length, drop, leb}
+use Rattle.std.specs.Prelude.{ℕ, List, ◌++◌, true, false, Result, Ok, Err, length, drop, leb}
 use Rattle.numbers.specs.declared.refusal.Cause.{Cause}
 use Rattle.numbers.specs.Refusals.{refusal}
 use Rattle.numbers.specs.declared.refusal.Refusal.{Refusal}
@@ -9,7 +9,6 @@ use Rattle.files.specs.Writing.{spell_file}
 use Rattle.coloring.specs.Colored.{color_in}
 use Rattle.routines.specs.Accepted.{accepted}
 use Rattle.instrumenter.specs.Instrumented.{instrumented}
-use Rattle.instrumenter.specs.declared.Instrumented.{Instrumented}
 
 pub data FileAnswer : Type 0 where
   file : List ℕ → FileAnswer
@@ -36,6 +35,6 @@ room_holding room (file bytes) = bytes ++ drop (length bytes) room
 room_holding room (FileAnswer.refused q) = room
 
 -- how the answer is told: the file's length, or the refusal
-abbrev pub told : FileAnswer → Instrumented
-told (file bytes) = Instrumented.Written (length bytes)
-told (FileAnswer.refused q) = Instrumented.Refused q
+abbrev pub told : FileAnswer → Result ℕ Refusal
+told (file bytes) = Ok (length bytes)
+told (FileAnswer.refused q) = Err q

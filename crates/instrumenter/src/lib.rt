@@ -4,68 +4,34 @@
 
 mod passes; // passes.rt: where the instructions go, and the code of version 2
 
-ghost use Rattle.std.specs.Prelude.{◌≡◌, ◌≤◌, length};
+ghost use Rattle.std.specs.Prelude.{◌≡◌, length};
 ghost use Rattle.instrumenter.specs.Answer.{instrument, told, room_holding};
-ghost use Rattle.instrumenter.specs.Arrays.{Version2};
 
 use coloring::read_colored;
-use files::{Loaded, Outcome};
 use layout::lay_out;
-use numbers::Refusal;
-use passes::{guarded_code, new_places};
-use writer::{Written, write_program};
+use numbers::refusal::{Cause, Refusal};
+use passes::version_2;
+use writer::write_program;
 
-// What instrumenting answers.
-#[derive(Clone, Copy)]
-pub enum Instrumented {
-    // The length of the version 2 file, which stands at the front of the room.
-    Written(usize),
-    // Why there is none: no byte of the room was changed.
-    Refused(Refusal),
-}
-
-// The held program with its code in version 2, where the sets no longer count.
-fn version_2(p: Loaded) -> Loaded
-    requires { p.lines ≤ 1000 }
-    ensures { Version2 p result }
-{
-    let lines = p.lines;
-    let code = p.code;
-    let places = new_places(lines, code, &p.sizes, &p.colors, &p.ends, &p.members);
-    let guarded = guarded_code(
-        lines, code, &places, &p.sizes, &p.colors, &p.ends, &p.members,
-    );
-    let checked = guarded.code;
-    let mut q = p;
-    q.lines = guarded.lines;
-    q.code = checked;
-    q
-}
-
-// Version 2 of the routine in a file of version 1, written to the front of a room; or why not.
-pub fn instrument(file: &[u8], room: &mut [u8]) -> Instrumented
+// Version 2 of the routine in a file of version 1, written to the front of a room, and its length; or why there is
+// none, and then no byte of the room was changed.
+#[tactic(auto, using(crate::proofs::Told::stays, crate::proofs::Told::small, crate::proofs::Told::too_high, crate::proofs::Told::told_so, crate::proofs::Told::room_left))]
+pub fn instrument(file: &[u8], room: &mut [u8]) -> Result<usize, Refusal>
     ensures answer { result ≡ told (instrument file.now (length room.old)) }
     ensures room { room.new ≡ room_holding room.old (instrument file.now (length room.old)) }
 {
-    let p = read_colored(file);
-    let outcome = p.outcome;
-    if let Outcome::Refused(q) = outcome {
-        return Instrumented::Refused(q);
-    }
-    let objects = p.objects;
-    let laid = lay_out(&p.kinds, &p.sizes, &p.colors, objects);
+    let mut routine = read_colored(file)?;
+    let laid = lay_out(&routine.objects);
     if 28672 < laid.end {
-        return Instrumented::Refused(Refusal {
-            number: 9,
+        return Err(Refusal {
+            cause: Cause::LargeGlobals,
             place: 0,
         });
     }
-    match write_program(version_2(p), room) {
-        Written::Upto(bytes) => Instrumented::Written(bytes),
-        // Version 2 is always a program: only the room can be too small.
-        _ => Instrumented::Refused(Refusal {
-            number: 10,
-            place: 0,
-        }),
-    }
+    routine.code = version_2(&routine);
+    // Version 2 is always a program: only the room can be too small.
+    write_program(&routine, room).or(Err(Refusal {
+        cause: Cause::SmallRoom,
+        place: 0,
+    }))
 }

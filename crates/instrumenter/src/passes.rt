@@ -1,86 +1,62 @@
 // The two passes over a routine's code: first the new place of each instruction, then the code of
 // version 2. Each owns the array that it fills, and is lent those that it reads.
 ghost use Rattle.std.specs.Prelude.{◌≡◌, ◌+◌, ◌≤◌, length, get_or};
-ghost use Rattle.checks.specs.Held.{as_list, check_in};
-ghost use Rattle.instrumenter.specs.Arrays.{PlacesAre, GuardedCode};
+ghost use Rattle.files.specs.Held.{code_held};
+ghost use Rattle.checks.specs.Held.{as_list};
+ghost use Rattle.instrumenter.specs.Instrumented.{guarded};
+ghost use Rattle.instrumenter.specs.Arrays.{checks_over, PlacesAre, Small, Version2};
 
-use checks::{Before, check_before, copy_of};
-use files::Line;
-use opcodes::Instr;
-
-// The code of version 2, of which the first so many lines count.
-#[derive(Clone, Copy)]
-pub struct Code {
-    pub lines: usize,
-    pub code: [Line; 2000],
-}
+use checks::{check_before, copy_of};
+use files::{Code, Loaded, Sets};
+use opcodes::{Instr, Object};
 
 // How many instructions of version 2 an instruction becomes: two where it has a check.
-fn span_of(before: Before) -> u16
-    ensures { (result ≡ length (as_list before) + 1) × (result ≤ 2) }
+fn span_of(before: Option<Instr>) -> u16
+    ensures value { result ≡ length (as_list before) + 1 }
+    ensures upper_bound { result ≤ 2 }
 {
-    match before {
-        Before::Check(_) => 2,
-        Before::Nothing => 1,
-    }
+    if before.is_some() { 2 } else { 1 }
 }
 
 // The new place of each instruction: that of its check, or else of its copy.
-pub(crate) fn new_places<'a>(
-    lines: usize,
-    code: [Line; 2000],
-    sizes: &'a [u16; 400],
-    colors: &'a [u8],
-    ends: &'a [u16],
-    members: &'a [u16],
-) -> [u16; 1000]
-    requires { lines ≤ 1000 }
-    ensures { PlacesAre (check_in sizes.now colors.now ends.now members.now) code lines result }
+fn new_places(code: &[Instr], objects: &[Object], sets: &Sets) -> [u16; 1000]
+    requires { length code.now ≤ 1000 }
+    ensures { PlacesAre (checks_over objects.now sets.now) code.now result }
 {
-    let mut places = [0u16; 1000];
-    let mut place = 0u16;
-    let mut at = 0;
-    while at < lines {
+    let mut places = [0; 1000];
+    let mut place = 0;
+    for (at, instr) in code.iter().enumerate() {
         places[at] = place;
-        let line = code[at];
-        let i = line.instr;
-        place += span_of(check_before(i, sizes, colors, ends, members));
-        at += 1;
+        place += span_of(check_before(*instr, objects, &sets.ends, &sets.members));
     }
     places
 }
 
 // The same instructions in order, each behind its check, with the new targets.
-pub(crate) fn guarded_code<'a>(
-    lines: usize,
-    code: [Line; 2000],
-    places: &'a [u16],
-    sizes: &'a [u16; 400],
-    colors: &'a [u8],
-    ends: &'a [u16],
-    members: &'a [u16],
-) -> Code
-    requires { lines ≤ 1000 }
-    ensures { GuardedCode (check_in sizes.now colors.now ends.now members.now) (λ t. get_or places.now t 0) code lines result.lines result.code }
+fn guarded_code(code: &[Instr], places: &[u16], objects: &[Object], sets: &Sets) -> Code
+    requires { length code.now ≤ 1000 }
+    ensures { result ≡ code_held (guarded (checks_over objects.now sets.now) (λ t. get_or places.now t 0) code.now) }
 {
-    let mut guarded = [Line { instr: Instr::End }; 2000];
-    let mut next = 0;
-    let mut at = 0;
-    while at < lines {
-        let old = code[at];
-        let i = old.instr;
-        if let Before::Check(check) = check_before(i, sizes, colors, ends, members) {
-            guarded[next] = Line { instr: check };
-            next += 1;
+    let mut list = [Instr::End; 2000];
+    let mut count = 0;
+    for instr in code {
+        if let Some(check) = check_before(*instr, objects, &sets.ends, &sets.members) {
+            list[count] = check;
+            count += 1;
         }
-        guarded[next] = Line {
-            instr: copy_of(i, places),
-        };
-        next += 1;
-        at += 1;
+        list[count] = copy_of(*instr, places);
+        count += 1;
     }
-    Code {
-        lines: next,
-        code: guarded,
-    }
+    Code { count, list }
+}
+
+// The code of version 2 of a routine that is held with its colors.
+pub(crate) fn version_2(routine: &Loaded) -> Code
+    requires { Small routine.now }
+    ensures { Version2 routine.now result }
+{
+    let code = &routine.code.list[..routine.code.count];
+    let objects = &routine.objects.list[..routine.objects.count];
+    let places = new_places(code, objects, &routine.sets);
+    guarded_code(code, &places, objects, &routine.sets)
 }
