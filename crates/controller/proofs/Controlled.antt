@@ -23,7 +23,7 @@ use Rattle.coloring.specs.Colored.{color_in}
 use Rattle.routines.specs.Accepted.{accepted, Accepted}
 use Rattle.routines.proofs.Stages.{crowds, overflows, admits}
 use Rattle.instrumenter.specs.Instrumented.{instrumented}
-use Rattle.instrumenter.specs.declared.Instrumented.{Instrumented}
+use Rattle.std.specs.Prelude.{Ok, Err}
 use Rattle.instrumenter.specs.Answer.{FileAnswer, new_file, instrument}
 use Rattle.instrumenter.specs.Answer as instrumenting
 use Rattle.instrumenter.proofs.Answers.{Because, answered_because}
@@ -149,22 +149,22 @@ module _ (bytes input : List ℕ) (limit : ℕ) (memory table room : List ℕ) w
     answer = rw long (controls bytes input limit (of memory table room) exact_lengths_lem)
 
     -- the instrumenter refuses
-    pub refused_so : (q : Refusal) → instrumenting.told (instrument bytes (length file)) ≡ Instrumented.Refused q
+    pub refused_so : (q : Refusal) → instrumenting.told (instrument bytes (length file)) ≡ Err q
         → control bytes input limit (of memory table room) ≡ refuse (of memory table room) q
     refused_so q e = go (instrument bytes (length file)) answer e
       where
-        go : (a : FileAnswer) → Controls bytes input limit (of memory table room) a → instrumenting.told a ≡ Instrumented.Refused q
+        go : (a : FileAnswer) → Controls bytes input limit (of memory table room) a → instrumenting.told a ≡ Err q
             → control bytes input limit (of memory table room) ≡ refuse (of memory table room) q
         go (FileAnswer.file out) k e = let z : ◌≡◌ {A = ℕ} 0 1 = cc in absurd (omega arith)
         go (FileAnswer.refused q') k e = let same : q' ≡ q = cc in k ∙ ap (refuse (of memory table room)) same
 
     -- the instrumenter writes n bytes at the front of the file's room, and the machine runs them
-    pub written_so : (n : ℕ) (after : List ℕ) → instrumenting.told (instrument bytes (length file)) ≡ Instrumented.Written n
+    pub written_so : (n : ℕ) (after : List ℕ) → instrumenting.told (instrument bytes (length file)) ≡ Ok n
         → after ≡ instrumenting.room_holding file (instrument bytes (length file))
         → (n ≤ length after) × (run_file (take n after) input limit (of memory table room) ≡ control bytes input limit (of memory table room))
     written_so n after e h = go (instrument bytes (length file)) answer e h
       where
-        go : (a : FileAnswer) → Controls bytes input limit (of memory table room) a → instrumenting.told a ≡ Instrumented.Written n
+        go : (a : FileAnswer) → Controls bytes input limit (of memory table room) a → instrumenting.told a ≡ Ok n
             → after ≡ instrumenting.room_holding file a
             → (n ≤ length after) × (run_file (take n after) input limit (of memory table room) ≡ control bytes input limit (of memory table room))
         go (FileAnswer.file out) k e h =

@@ -3,4 +3,3 @@
 pub mod Control
 pub mod TableAfter
 pub mod Demands
-pub mod Inside

@@ -5,34 +5,13 @@
 ghost use Rattle.std.specs.Prelude.{◌≡◌, length};
 ghost use Rattle.stops.specs.Stop.{five_of};
 ghost use Rattle.controller.specs.Control.{control};
-ghost use Rattle.controller.specs.Inside.{why_not};
 ghost use Rattle.machine.specs.Running.{lent_of, answered};
 
-use instrumenter::{Instrumented, instrument};
+use instrumenter::instrument;
 use machine::run_file;
 use memory::lengths::are_exact;
-use numbers::Refusal;
+use numbers::refusal::{Cause, Refusal};
 use stops::{Run, numbers_of, refused};
-
-// Why a routine was not instrumented.
-fn why_not(answer: Instrumented) -> Refusal
-    ensures { result ≡ why_not answer }
-{
-    match answer {
-        Instrumented::Written(_) => Refusal {
-            number: 0,
-            place: 0,
-        },
-        Instrumented::Refused(q) => q,
-    }
-}
-
-// Room for any instrumented file.
-fn blank_room() -> [u8; 32768]
-    ensures { length result ≡ 32768 }
-{
-    [0; 32768]
-}
 
 // Instruments a routine and runs it, where memory and table have their exact lengths.
 fn instrument_and_run(
@@ -46,12 +25,12 @@ fn instrument_and_run(
     requires { (length memory.old ≡ 57344) × (length table.old ≡ 7168) }
     ensures { answered result (lent_of memory.new table.new room.new) ≡ control file.now input.now limit (lent_of memory.old table.old room.old) }
 {
-    let mut code = blank_room();
-    let answer = instrument(file, &mut code);
-    let Instrumented::Written(length) = answer else {
-        return refused(why_not(answer));
-    };
-    run_file(&code[..length], input, memory, table, room, limit)
+    // Room for any instrumented file.
+    let mut code = [0; 32768];
+    match instrument(file, &mut code) {
+        Ok(length) => run_file(&code[..length], input, memory, table, room, limit),
+        Err(why) => refused(why),
+    }
 }
 
 // Takes a routine that nobody has read, on lent memory, table and room for numbers out. The record, the
@@ -66,12 +45,11 @@ pub fn control(
 ) -> Run
     ensures { answered result (lent_of memory.new table.new room.new) ≡ control file.now input.now limit (lent_of memory.old table.old room.old) }
 {
-    let wrong = Refusal {
-        number: 11,
-        place: 0,
-    };
     if !are_exact(memory, table) {
-        return refused(wrong);
+        return refused(Refusal {
+            cause: Cause::WrongLength,
+            place: 0,
+        });
     }
     instrument_and_run(file, input, memory, table, room, limit)
 }

@@ -6,7 +6,7 @@
 -- higher, so the loop changes nothing more; what the block behind adds is read at its header, which was
 -- walked, so the joined block ends at or below the end slot.
 use Prim.Native.Nat.{ℕ, zero, suc, ◌+◌, ◌-◌, ◌≤◌, ◌<◌}
-use mathlib.Core.Path.{◌≡◌, refl, sym, ap, ◌∙◌, subst}
+use mathlib.Core.Path.{◌≡◌, refl, sym, ap, ap₂, ◌∙◌, subst}
 use mathlib.Core.Bool.{Bool, true, false}
 use mathlib.Core.Logic.{◌⊎◌, inl, inr}
 use mathlib.Core.List.{List, [], ◌∷◌}
@@ -249,3 +249,8 @@ module _ (m t : List ℕ) (address : ℕ) where
 
 -- each return by its law
 pub ruleset free_answers = (wrong_length, stopped, found_none, found_freed)
+
+-- where the joined block ends
+pub joined_end : (m : List ℕ) (address size spare : ℕ) → size ≡ number_at 4 m (address - 8) → spare ≡ spare_at m (address + size)
+    → address + size + spare ≡ address + number_at 4 m (address - 8) + spare_at m (address + number_at 4 m (address - 8))
+joined_end m address size spare e₁ e₂ = ap₂ (λ x y. address + x + y) e₁ (e₂ ∙ ap (λ x. spare_at m (address + x)) e₁)

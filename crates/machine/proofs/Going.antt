@@ -7,51 +7,54 @@
 -- held at the start; `Going` carries that the part behind is still the first room's. What holds after a
 -- turn is computed from what the turn answers (`AfterTurn`), so that the code's own answer is followed
 -- by one transport.
-use Rattle.std.proofs.Common.{◌≡◌, ℕ, zero, suc, ◌+◌, ◌-◌, ◌*◌, ◌<◌, ◌≤◌, List, ◌++◌, length, get_or, take, drop, replicate, sym, refl, ap, ◌∙◌, subst, ⊎_elim, arith, length-append, take-append-drop, length-take-le, drop-drop, take_at, drop_at}
+use Rattle.std.proofs.Common.{◌≡◌, ℕ, zero, suc, ◌+◌, ◌-◌, ◌*◌, ◌<◌, ◌≤◌, Result, Ok, Err, List, ◌++◌, length, get_or, take, drop, replicate, sym, refl, ap, ◌∙◌, subst, ⊎_elim, arith, length-append, take-append-drop, length-take-le, drop-drop, take_at, drop_at}
 use Rattle.opcodes.specs.declared.Instr.{Instr}
-use Rattle.opcodes.specs.View.{view}
+use Rattle.opcodes.specs.declared.Object.{Object}
+use Rattle.opcodes.specs.View.{View, view}
 use Rattle.memory.specs.Memory.{memory_size, table_size}
 use Rattle.stops.specs.declared.Reason.{Reason}
-use Rattle.machine.specs.declared.Progress.{Progress}
-use Rattle.machine.specs.declared.Turn.{Turn}
+use Rattle.machine.specs.declared.progress.Progress.{Progress}
 use Rattle.machine.specs.State.{Rule, Given, State}
 use Rattle.machine.specs.Step.{Next, stop, next, perform, step}
 use Rattle.machine.specs.Runs.{stopped, run_from}
 use Rattle.machine.specs.Running.{Lent, Answer, leaves, lent_of, answered}
-use Rattle.machine.specs.Turn.{held_rule, Held, held, state_of, Turned, progress_of, landed, turn_of, record_at, run_held}
+use Rattle.machine.specs.Turn.{held_rule, Held, held, state_of, Turned, turned, progress_of, landed, turn_of, record_at, run_held}
 use Rattle.machine.proofs.Steps.{step_past, step_limit, step_goes}
 use Rattle.machine.proofs.Turns.{turn_on, turn_stop, Forth, forth, weight, lighter}
 
--- what a run is given, and the room at its start
+-- a run: what it is given, and what is lent at its start
 pub record Course : Type 0 where
   pub code : List Instr
   pub starts : List ℕ
-  pub colors : List ℕ
+  pub objects : List Object
   pub input : List ℕ
   pub limit : ℕ
-  pub room : List ℕ
-  pub answer : Answer
+  pub lent : Lent
 
 module _ (r : Course) where
+  -- what the run answers
+  abbrev pub answer : Answer
+  answer = run_held r.code r.starts r.objects r.input r.limit r.lent
+
   abbrev rule : Rule (List ℕ)
-  rule = held_rule r.code r.starts r.colors
+  rule = held_rule r.code r.starts r.objects
 
   abbrev given : Given
-  given = record { input = r.input; room = length r.room; limit = r.limit }
+  given = record { input = r.input; room = length r.lent.room; limit = r.limit }
 
   abbrev pub weight_of : Progress → ℕ
   weight_of p = weight (length r.code) r.limit p.steps p.at
 
   pub record Going (h : Held) (p : Progress) : Type 0 where
     pub turns : ℕ
-    pub rest : leaves r.room (run_from rule given turns (state_of h p)) ≡ r.answer
+    pub rest : leaves r.lent.room (run_from rule given turns (state_of h p)) ≡ answer
     pub enough : weight_of p < turns
     pub limited : p.steps ≤ r.limit
     pub memory : length h.memory ≡ memory_size
     pub table : length h.table ≡ table_size
-    pub room : length h.room ≡ length r.room
+    pub room : length h.room ≡ length r.lent.room
     pub outs : p.out ≤ length h.room
-    pub behind : drop p.out h.room ≡ drop p.out r.room
+    pub behind : drop p.out h.room ≡ drop p.out r.lent.room
 
   abbrev lent_by : Held → Lent
   lent_by h = lent_of h.memory h.table h.room
@@ -59,32 +62,24 @@ module _ (r : Course) where
   -- ---- a stop
 
   -- what a stop leaves is what is held
-  stop_leaves : (h : Held) (p : Progress) (reason : Reason) → p.out ≤ length h.room → drop p.out h.room ≡ drop p.out r.room
-      → answered (record_at r.code p reason) (lent_by h) ≡ leaves r.room (stopped rule given (state_of h p) reason)
+  stop_leaves : (h : Held) (p : Progress) (reason : Reason) → p.out ≤ length h.room → drop p.out h.room ≡ drop p.out r.lent.room
+      → answered (record_at r.code p reason) (lent_by h) ≡ leaves r.lent.room (stopped rule given (state_of h p) reason)
   stop_leaves h p reason fits behind =
       let long : p.out ≡ length (take p.out h.room) = sym (length-take-le p.out h.room fits) in
-      let whole : h.room ≡ take p.out h.room ++ drop (length (take p.out h.room)) r.room =
-      sym (take-append-drop p.out h.room) ∙ ap (λ l. take p.out h.room ++ l) behind ∙ ap (λ n. take p.out h.room ++ drop n r.room) long in
+      let whole : h.room ≡ take p.out h.room ++ drop (length (take p.out h.room)) r.lent.room =
+      sym (take-append-drop p.out h.room) ∙ ap (λ l. take p.out h.room ++ l) behind ∙ ap (λ n. take p.out h.room ++ drop n r.lent.room) long in
       (λ i. answered (record_at r.code (record { at = p.at; steps = p.steps; out = long i; taken = p.taken }) reason) (lent_of h.memory h.table (whole i)))
 
-  pub stops : (h : Held) (p : Progress) (reason : Reason) → Going h p → step rule given (state_of h p) ≡ stop reason
-      → answered (record_at r.code p reason) (lent_by h) ≡ r.answer
+  stops : (h : Held) (p : Progress) (reason : Reason) → Going h p → step rule given (state_of h p) ≡ stop reason
+      → answered (record_at r.code p reason) (lent_by h) ≡ answer
   stops h p reason g e = go g.turns refl
     where
-      go : (turns : ℕ) → g.turns ≡ turns → answered (record_at r.code p reason) (lent_by h) ≡ r.answer
+      go : (turns : ℕ) → g.turns ≡ turns → answered (record_at r.code p reason) (lent_by h) ≡ answer
       go zero q = absurd (omega (arith, g.enough))
       go (suc turns) q =
           stop_leaves h p reason g.outs g.behind
-          ∙ ap (leaves r.room) (sym (turn_stop rule given turns (state_of h p) reason e) ∙ ap (λ n. run_from rule given n (state_of h p)) (sym q))
+          ∙ ap (leaves r.lent.room) (sym (turn_stop rule given turns (state_of h p) reason e) ∙ ap (λ n. run_from rule given n (state_of h p)) (sym q))
           ∙ g.rest
-
-  pub stops_past : (h : Held) (p : Progress) → Going h p → length r.code ≤ p.at
-      → answered (record_at r.code p Reason.PastEnd) (lent_by h) ≡ r.answer
-  stops_past h p g past = stops h p Reason.PastEnd g (step_past rule given (state_of h p) past)
-
-  pub stops_limit : (h : Held) (p : Progress) → Going h p → p.at < length r.code → r.limit ≤ p.steps
-      → answered (record_at r.code p Reason.LimitUsed) (lent_by h) ≡ r.answer
-  stops_limit h p g here used = stops h p Reason.LimitUsed g (step_limit rule given (state_of h p) here used)
 
   -- ---- a turn
 
@@ -92,9 +87,9 @@ module _ (r : Course) where
   abbrev pub AfterTurn : Progress → Turned → Type 0
   AfterTurn p x =
       elim x.turn [
-        | Turn.Stop reason ↦ answered (record_at r.code p reason) (lent_by x.after) ≡ r.answer
-        | Turn.On q ↦
-            (length x.after.memory ≡ memory_size → length x.after.table ≡ table_size → length x.after.room ≡ length r.room → Going x.after q)
+        | Err reason ↦ answered (record_at r.code p reason) (lent_by x.after) ≡ answer
+        | Ok q ↦
+            (length x.after.memory ≡ memory_size → length x.after.table ≡ table_size → length x.after.room ≡ length r.lent.room → Going x.after q)
             × (weight_of q < weight_of p)
       ]
 
@@ -126,15 +121,15 @@ module _ (r : Course) where
         room : List ℕ
         room = s.outs ++ drop (length s.outs) h.room
 
-        go : length s.memory ≡ memory_size → length s.own ≡ table_size → length (s.outs ++ drop (length s.outs) h.room) ≡ length r.room → (turns : ℕ) → g.turns ≡ turns
+        go : length s.memory ≡ memory_size → length s.own ≡ table_size → length (s.outs ++ drop (length s.outs) h.room) ≡ length r.lent.room → (turns : ℕ) → g.turns ≡ turns
             → Going (held s.temps s.memory s.own (s.outs ++ drop (length s.outs) h.room)) (progress_of s)
         go m t l zero q = absurd (omega (arith, g.enough))
         go m t l (suc turns) q =
             record {
               turns = turns;
               rest =
-                  ap (λ x. leaves r.room (run_from rule given turns x)) (same_state s h.room)
-                  ∙ ap (leaves r.room) (sym (turn_on rule given turns (state_of h p) s e) ∙ ap (λ n. run_from rule given n (state_of h p)) (sym q))
+                  ap (λ x. leaves r.lent.room (run_from rule given turns x)) (same_state s h.room)
+                  ∙ ap (leaves r.lent.room) (sym (turn_on rule given turns (state_of h p) s e) ∙ ap (λ n. run_from rule given n (state_of h p)) (sym q))
                   ∙ g.rest;
               enough = omega (arith, g.enough, falls);
               limited = within;
@@ -144,40 +139,50 @@ module _ (r : Course) where
               outs = rw (length-append s.outs (drop (length s.outs) h.room)) (omega arith);
               behind =
                   drop_at s.outs (drop (length s.outs) h.room) (length s.outs) refl
-                  ∙ still_behind p.out (length s.outs) h.room r.room grown g.behind;
+                  ∙ still_behind p.out (length s.outs) h.room r.lent.room grown g.behind;
             }
 
     turns_well : (n : Next (List ℕ)) → step rule given (state_of h p) ≡ n → Forth rule given (state_of h p) n → AfterTurn p (landed h n)
     turns_well (stop reason) e f = stops h p reason g e
     turns_well (next s) e f = goes_on s e f
 
-    -- the code's turn is made with the room as it is and without the code and the limit
-    same_turn : turn_of r.starts r.colors r.input h p (get_or r.code p.at Instr.End)
-        ≡ landed h (perform rule given (state_of h p) (view (get_or r.code p.at Instr.End)))
-    same_turn = ap (λ n. landed h (perform rule (record { input = r.input; room = n; limit = r.limit }) (state_of h p) (view (get_or r.code p.at Instr.End)))) g.room
+  -- ---- the start
 
-    pub after_turn : AfterTurn p (turn_of r.starts r.colors r.input h p (get_or r.code p.at Instr.End))
-    after_turn =
-        subst (AfterTurn p) (sym same_turn)
-        (turns_well (perform rule given (state_of h p) (view (get_or r.code p.at Instr.End))) (step_goes rule given (state_of h p) in_code in_limit)
-        (forth rule given (state_of h p) (view (get_or r.code p.at Instr.End))))
+  pub starts_off : length r.lent.memory ≡ memory_size → length r.lent.table ≡ table_size
+      → Going (held (replicate 16 0) r.lent.memory r.lent.table r.lent.room) (record { at = 0; steps = 0; out = 0; taken = 0 })
+  starts_off m t =
+      let all : r.limit - 0 ≡ r.limit = omega arith in
+      record {
+        turns = (r.limit + 1) * (length r.code + 1);
+        rest = refl;
+        enough = rw (all) (omega arith);
+        limited = omega arith;
+        memory = m;
+        table = t;
+        room = refl;
+        outs = omega arith;
+        behind = refl;
+      }
 
--- ---- the start
+-- ---- where the loop stands
 
-pub starts_off : (code : List Instr) (starts colors input : List ℕ) (limit : ℕ) (memory table room : List ℕ)
-    → length memory ≡ memory_size → length table ≡ table_size
-    → Going (record { code = code; starts = starts; colors = colors; input = input; limit = limit; room = room; answer = run_held code starts colors input limit (lent_of memory table room) })
-    (held (replicate 16 0) memory table room) (record { at = 0; steps = 0; out = 0; taken = 0 })
-starts_off code starts colors input limit memory table room m t =
-    let all : limit - 0 ≡ limit = omega arith in
-    record {
-      turns = (limit + 1) * (length code + 1);
-      rest = refl;
-      enough = rw (all) (omega arith);
-      limited = omega arith;
-      memory = m;
-      table = t;
-      room = refl;
-      outs = omega arith;
-      behind = refl;
-    }
+module _ {r : Course} {h : Held} {p : Progress} (g : Going r h p) where
+  pub stops_past : length r.code ≤ p.at → answered (record_at r.code p Reason.PastEnd) (lent_by r h) ≡ answer r
+  stops_past past = stops r h p Reason.PastEnd g (step_past (rule r) (given r) (state_of h p) past)
+
+  pub stops_limit : p.at < length r.code → r.limit ≤ p.steps → answered (record_at r.code p Reason.LimitUsed) (lent_by r h) ≡ answer r
+  stops_limit here used = stops r h p Reason.LimitUsed g (step_limit (rule r) (given r) (state_of h p) here used)
+
+  -- the code's turn is made with the room as it is and without the code and the limit
+  same_turn : turn_of r.starts r.objects r.input h p (get_or r.code p.at Instr.End)
+      ≡ landed h (perform (rule r) (given r) (state_of h p) (view (get_or r.code p.at Instr.End)))
+  same_turn = ap (λ n. landed h (perform (rule r) (record { input = r.input; room = n; limit = r.limit }) (state_of h p) (view (get_or r.code p.at Instr.End)))) g.room
+
+  pub after_turn : {i : Instr} {turn : Result Progress Reason} {after : Held}
+      → (p.at < length r.code) × (i ≡ get_or r.code p.at Instr.End) → p.steps < r.limit
+      → turned turn after ≡ turn_of r.starts r.objects r.input h p i → AfterTurn r p (turned turn after)
+  after_turn here within e =
+      let v : View = view (get_or r.code p.at Instr.End) in
+      subst (AfterTurn r p) (sym (e ∙ ap (turn_of r.starts r.objects r.input h p) here.1 ∙ same_turn))
+      (turns_well r h p g here.0 within (perform (rule r) (given r) (state_of h p) v) (step_goes (rule r) (given r) (state_of h p) here.0 within)
+      (forth (rule r) (given r) (state_of h p) v))

@@ -1,194 +1,143 @@
 -- From what the reader holds to the definition's run of a program.
 --
--- Of an accepted file the arrays are the program's fields (`held`), so each thing that the code takes
--- from them is the definition's: the pieces and their layout, the instructions, the first table
--- (`Starting`), and the rule (`Agreeing`). `runs_program` puts them together: a run of what is held is
--- the run of the program, or refusal 9. `run_file` adds the refusals before it.
-use Rattle.std.proofs.Common.{◌≡◌, ℕ, ◌+◌, ◌*◌, ◌≤◌, Bool, true, false, ltb, List, map, length, get_or, sym, refl, ap, ◌∙◌, subst, not-suc-le-zero, arith, ltb-false, ltb-true, eq-eqb, leb-true}
-use lib.ListN.{get_or-eq_default}
+-- Of an accepted file the first elements of the arrays are the program's (`ReadAs`), so each thing that the code
+-- takes from them is the definition's: the layout, the instructions, the first table (`starts_first`), and the rule
+-- (`Agreeing`). So the run is the run of the program (`runs`), or refusal 9 (`long`).
+use Rattle.std.proofs.Common.{◌≡◌, List, ℕ, ◌+◌, ◌*◌, ◌≤◌, Bool, true, false, Ok, ltb, length, get_or, take, sym, refl, ap, ◌∙◌, subst, arith, ltb-false, ltb-true, leb-true}
 use Rattle.numbers.specs.declared.refusal.Cause.{Cause}
 use Rattle.numbers.specs.Refusals.{refusal}
-use Rattle.numbers.specs.declared.refusal.Refusal.{Refusal}
 use Rattle.opcodes.specs.declared.Instr.{Instr}
 use Rattle.opcodes.specs.declared.Object.{Object}
-use Rattle.files.specs.declared.Outcome.{Outcome}
-use Rattle.files.specs.declared.Loaded.{Loaded}
+use Rattle.opcodes.proofs.Bounds.{within_bounds}
+use Rattle.files.specs.declared.arrays.Loaded.{Loaded}
 use Rattle.files.specs.Program.{Program}
 use Rattle.files.specs.Reading.{Reading, whole, read_file}
 use Rattle.files.specs.Writing.{scope_of}
-use Rattle.files.specs.Held.{filled, tabulate, line, held_as, held}
-use Rattle.opcodes.proofs.Bounds.{within_bounds}
-use Rattle.files.proofs.Tabulated.{length-tabulate, get_d_tabulate_zero}
-use Rattle.files.proofs.Filled.{get_d_filled, get_d_filled_map, lines_filled}
-use Rattle.files.proofs.RoundTrip.{Good, good_read, whole_not_refused}
+use Rattle.files.specs.Held.{blank, held_as, held}
+use Rattle.files.proofs.Filled.{take-filled}
+use Rattle.files.proofs.RoundTrip.{Good, good_read}
 use Rattle.layout.specs.Layout.{Piece, pieces_of, start_of, end_of, fits}
 use Rattle.layout.specs.Arrays.{pieces_in, layout_of}
-use Rattle.memory.specs.Memory.{memory_size, table_size}
-use Rattle.heap.specs.Heap.{paint_made, paint_freed}
-use Rattle.heap.specs.Lent.{After}
 use Rattle.layout.proofs.Places.{start_low}
-use Rattle.stops.specs.declared.Run.{Run}
-use Rattle.stops.specs.Stop.{refused_run}
-use Rattle.stops.specs.Held.{code_of}
-use Rattle.machine.specs.State.{Given, State, start_state}
-use Rattle.machine.specs.Runs.{run_from, runs}
-use Rattle.machine.specs.Colors.{table_allows, color_of_object, table_rule}
-use Rattle.machine.specs.Running.{Lent, Answer, refuse, leaves, run_program, run_reading, exact_lengths, run_file, lent_of, answered}
-use Rattle.machine.specs.Turn.{held_rule, Low, AllNarrow, run_held}
-use Rattle.machine.specs.Start.{run_for, run_laid, Runnable, run_loaded}
+use Rattle.layout.proofs.Pieces.{start_held, no_start_held}
+use Rattle.memory.specs.Memory.{memory_size, table_size}
+use Rattle.memory.proofs.Exact.{exact_lengths_lem}
+use Rattle.heap.specs.Lent.{After}
 use Rattle.start.specs.declared.Laid.{Laid}
 use Rattle.start.specs.First.{first_memory, first_table}
 use Rattle.start.specs.Held.{laid_start}
-use Rattle.start.proofs.Starting.{no_object, start_is, starts_first, first_for}
-use Rattle.machine.proofs.Agreeing.{same_runs, agrees}
+use Rattle.start.proofs.Starting.{start_is, starts_first, first_for}
+use Rattle.stops.specs.Stop.{refused_run}
+use Rattle.machine.specs.State.{Given, start_state}
+use Rattle.machine.specs.Runs.{runs}
+use Rattle.machine.specs.Colors.{table_rule}
+use Rattle.machine.specs.Running.{Lent, Answer, refuse, leaves, run_program, run_reading, exact_lengths, run_file, lent_of, answered}
+use Rattle.machine.specs.Turn.{held_rule, Low, AllNarrow, run_held}
+use Rattle.machine.proofs.Agreeing.{same_runs}
 use Rattle.machine.proofs.Temporaries.{narrow_code}
 
 -- ---- starts are low
 
 pub low_starts : (os : List Piece) → end_of os ≤ 28672 → Low (layout_of os).starts
-low_starts os fit g = go (ltb g (length os)) refl (get_d_filled 400 0 (tabulate (start_of os) 0 (length os)) g)
+low_starts os fit g = go (ltb g (length os)) refl
   where
-    go : (b : Bool) → ltb g (length os) ≡ b → {x : ℕ} → x ≡ get_or (tabulate (start_of os) 0 (length os)) g 0 → x ≤ 28672
-    go true e one =
-        let at : get_or (tabulate (start_of os) 0 (length os)) g 0 ≡ start_of os g = get_d_tabulate_zero (start_of os) (length os) g 0 (ltb-true _ _ e) in
-        omega (arith, start_low os g)
-    go false e one =
-        let past : length os ≤ g = ltb-false _ _ e in
-        let none : get_or (tabulate (start_of os) 0 (length os)) g 0 ≡ 0 =
-        get_or-eq_default (tabulate (start_of os) 0 (length os)) 0 (omega (arith, length-tabulate (start_of os) 0 (length os))) in
-        omega arith
+    go : (b : Bool) → ltb g (length os) ≡ b → get_or (layout_of os).starts g 0 ≤ 28672
+    go true e = omega (arith, start_held os g (ltb-true _ _ e), start_low os g)
+    go false e = omega (arith, no_start_held os g (ltb-false _ _ e))
 
--- ---- the code's run of what is held
+-- ---- what is held is a program
 
-module _ (l : Loaded) (input : List ℕ) (limit : ℕ) (lent : Lent) where
-  abbrev start : After Laid
-  start = laid_start l.kinds l.sizes l.colors l.objects lent.memory lent.table
+pub record ReadAs (file : List ℕ) (l : Loaded) : Type 0 where
+  pub program : Program
+  pub reads : read_file 2 file ≡ whole program
+  pub good : Good 2 program
+  pub is : l ≡ held_as program
 
-  module _ (laid : Laid) (after : Lent) where
-    abbrev runs_by : Bool → Answer
-    runs_by b =
-        elim b [
-          | true ↦ run_held (code_of l.code l.lines) laid.starts l.colors input limit after
-          | false ↦ refuse after (refusal Cause.LargeGlobals 0)
-        ]
+module _ {file : List ℕ} {l : Loaded} where
+  pub read_as : Ok l ≡ held (read_file 2 file) → ReadAs file l
+  read_as e = go (read_file 2 file) refl e
+    where
+      go : (r : Reading) → read_file 2 file ≡ r → Ok l ≡ held r → ReadAs file l
+      go (whole p) r e = let is : l ≡ held_as p = cc in record { program = p; reads = r; good = good_read 2 file p r; is = is }
+      go (Reading.refused q) r e = cc
 
-    pub says_long : {run : Run} → laid.fits ≡ false → run ≡ refused_run (refusal Cause.LargeGlobals 0)
-        → answered run after ≡ run_for (code_of l.code l.lines) l.colors input limit after laid
-    says_long not e = ap (λ x. answered x after) e ∙ sym (ap runs_by not)
+  module _ (r : ReadAs file l) where
+    objects_are : take l.objects.count l.objects.list ≡ r.program.objects
+    objects_are = ap (λ x. take x.objects.count x.objects.list) r.is ∙ take-filled 400 blank r.program.objects (length r.program.objects) refl
 
-    pub says_fits : {x : Answer} → laid.fits ≡ true → x ≡ run_held (code_of l.code l.lines) laid.starts l.colors input limit after
-        → x ≡ run_for (code_of l.code l.lines) l.colors input limit after laid
-    says_fits fit e = e ∙ sym (ap runs_by fit)
+    code_is : take l.code.count l.code.list ≡ r.program.code
+    code_is = ap (λ x. take x.code.count x.code.list) r.is ∙ take-filled 2000 Instr.End r.program.code (length r.program.code) refl
 
-  module _ {laid : Laid} (told : laid ≡ start.answer) where
-    -- a run from what was laid out, or a refusal, as the answer says
-    pub runs_laid : {x : Answer} {memory table : List ℕ} → memory ≡ start.memory → table ≡ start.table
-        → x ≡ run_for (code_of l.code l.lines) l.colors input limit (lent_of memory table lent.room) laid
-        → x ≡ run_loaded l input limit lent
-    unfolding run_loaded
-    runs_laid m t e =
-        e ∙ (λ i. run_for (code_of l.code l.lines) l.colors input limit (lent_of (m i) (t i) lent.room) (told i))
+    pub few_lines : length (take l.code.count l.code.list) ≤ 2000
+    few_lines = rw code_is (within_bounds 1 2000 (length r.program.code) r.good.code_most).1
 
-    pub low_laid : laid.fits ≡ true → Low laid.starts
-    unfolding laid_start
-    low_laid fit =
-        let os = pieces_in l.kinds l.sizes l.colors l.objects in
-        let known : fits os ≡ true = sym (ap (λ x. x.fits) told) ∙ fit in
-        subst (λ (x : Laid). Low x.starts) (sym told) (low_starts os (leb-true _ _ known))
+    pub narrow : AllNarrow (take l.code.count l.code.list)
+    narrow = subst AllNarrow (sym code_is) (narrow_code (scope_of 2 r.program) r.program.code r.good.code)
 
--- ---- a program that is held
+-- no more are counted than there is room for
+module _ (file : List ℕ) (l : Loaded) (e : Ok l ≡ held (read_file 2 file)) where
+  read_so : ReadAs file l
+  read_so = read_as e
 
-module _ (p : Program) (good : Good 2 p) (input : List ℕ) (limit : ℕ) (lent : Lent)
-    (memory : length lent.memory ≡ memory_size) (table : length lent.table ≡ table_size) where
+  pub few_objects : l.objects.count ≤ 400
+  few_objects = rw read_so.is read_so.good.objects_most
+
+  pub few_instrs : l.code.count ≤ 2000
+  few_instrs = rw read_so.is (within_bounds 1 2000 (length read_so.program.code) read_so.good.code_most).1
+
+-- ---- the start, and the run
+
+module _ (file input : List ℕ) (limit : ℕ) (memory table room : List ℕ) {l : Loaded} (r : ReadAs file l) (exact : exact_lengths (lent_of memory table room) ≡ true) where
+  abbrev lent : Lent
+  lent = lent_of memory table room
+
+  abbrev objects : List Object
+  objects = r.program.objects
+
+  abbrev first : Bool → After Laid
+  first = first_for r.program memory table r.good.objects_most (exact_lengths_lem memory table exact).0 (exact_lengths_lem memory table exact).1
+
+  file_run : (b : Bool) → fits (pieces_of objects) ≡ b
+      → elim b [ true ↦ run_program input limit lent r.program | false ↦ refuse lent (refusal Cause.LargeGlobals 0) ] ≡ run_file file input limit lent
+  unfolding run_file
+  file_run b fit = sym (rw (exact, run_file) (ap (run_reading input limit lent) r.reads ∙ rw (fit, run_reading) refl))
+
   abbrev starts : List ℕ
-  starts = (layout_of (pieces_of p.objects)).starts
-
-  abbrev colors : List ℕ
-  colors = filled 400 0 (map (λ o. o.color) p.objects)
-
-  abbrev given : Given
-  given = record { input = input; room = length lent.room; limit = limit }
+  starts = (layout_of (pieces_of objects)).starts
 
   -- the rule over what is held runs as the table's rule
-  rules_run : end_of (pieces_of p.objects) ≤ 28672 → (turns : ℕ) (state : State (List ℕ))
-      → run_from (held_rule p.code starts colors) given turns state ≡ run_from (table_rule p) given turns state
-  unfolding table_rule
-  rules_run fit turns state =
-      same_runs p.code (λ g. get_or starts g 0) (start_of (pieces_of p.objects)) table_allows
-      (λ t site k. paint_made t (get_or colors site 0) k) (λ t site k. paint_made t (color_of_object p.objects site) k) (λ t address f. paint_freed t f) given
-      (λ own site k. ap (λ n. paint_made own n k) (get_d_filled_map 400 (λ (o : Object). o.color) no_object p.objects site))
-      (agrees p (λ g. get_or starts g 0) (start_of (pieces_of p.objects)) table_allows
-      (λ t site k. paint_made t (get_or colors site 0) k) (λ t site k. paint_made t (color_of_object p.objects site) k) (λ t address f. paint_freed t f) given
-      (start_is p.objects good.objects_most fit) good.code)
-      turns state
-
-  run_held_lem : end_of (pieces_of p.objects) ≤ 28672
-      → run_held (code_of (filled 2000 (line Instr.End) (map line p.code)) (length p.code)) starts colors input limit
-      (lent_of first_memory (first_table p) lent.room)
-      ≡ run_program input limit lent p
+  program_run : run_held r.program.code starts objects input limit (lent_of first_memory (first_table r.program) room) ≡ run_program input limit lent r.program
   unfolding runs table_rule
-  run_held_lem fit =
-      ap (λ code. run_held code starts colors input limit (lent_of first_memory (first_table p) lent.room)) (lines_filled 2000 (line Instr.End) p.code)
-      ∙ ap (leaves lent.room) (rules_run fit ((limit + 1) * (length p.code + 1)) (start_state (first_table p)))
+  program_run =
+      let given : Given = record { input = input; room = length room; limit = limit } in
+      ap (leaves room)
+      (same_runs r.program (held_rule r.program.code starts objects) (start_of (pieces_of objects)) given (start_is objects) r.good.code
+      ((limit + 1) * (length r.program.code + 1)) (start_state (first_table r.program)))
 
-  pub runs_program : run_loaded (held_as Outcome.Whole p) input limit lent ≡ run_reading input limit lent (whole p)
-  unfolding run_loaded
-  runs_program =
-      ap (run_laid code colors input limit lent.room) (starts_first p lent.memory lent.table good.objects_most memory table)
-      ∙ go (fits (pieces_of p.objects)) refl
-    where
-      code : List Instr
-      code = code_of (filled 2000 (line Instr.End) (map line p.code)) (length p.code)
+  module _ {laid : Laid} {m t : List ℕ} (told : laid ≡ (laid_start l.objects memory table).answer)
+      (ms : m ≡ (laid_start l.objects memory table).memory) (ts : t ≡ (laid_start l.objects memory table).table) where
+    laid_first : ◌≡◌ {A = After Laid} (record { answer = laid; memory = m; table = t }) (first (fits (pieces_of objects)))
+    laid_first =
+        (λ i. record { answer = told i; memory = ms i; table = ts i }) ∙ ap (λ x. laid_start x.objects memory table) r.is
+        ∙ starts_first r.program memory table r.good.objects_most (exact_lengths_lem memory table exact).0 (exact_lengths_lem memory table exact).1
 
-      go : (b : Bool) → fits (pieces_of p.objects) ≡ b
-          → run_laid code colors input limit lent.room (first_for p lent.memory lent.table good.objects_most memory table b)
-          ≡ elim b [ true ↦ run_program input limit lent p | false ↦ refuse lent (refusal Cause.LargeGlobals 0) ]
-      go true e = run_held_lem (leb-true _ _ e)
-      go false e = refl
+    laid_by : (b : Bool) → laid.fits ≡ b
+        → (fits (pieces_of objects) ≡ b) × ◌≡◌ {A = After Laid} (record { answer = laid; memory = m; table = t }) (first b)
+    laid_by b e =
+        let same : fits (pieces_of objects) ≡ b = sym (ap (λ x. x.answer.fits) laid_first) ∙ e in
+        (same, laid_first ∙ ap first same)
 
--- ---- the refusals, and a whole file
+    pub long : laid.fits ≡ false → answered (refused_run (refusal Cause.LargeGlobals 0)) (lent_of m t room) ≡ run_file file input limit lent
+    long e =
+        ap (λ x. answered (refused_run (refusal Cause.LargeGlobals 0)) (lent_of x.memory x.table room)) (laid_by false e).1
+        ∙ file_run false (laid_by false e).0
 
-module _ (file input : List ℕ) (limit : ℕ) (lent : Lent) where
-  pub wrong_lengths : {run : Run} → exact_lengths lent ≡ false → run ≡ refused_run (refusal Cause.WrongLength 0) → answered run lent ≡ run_file file input limit lent
-  unfolding run_file
-  wrong_lengths other e = ap (λ x. answered x lent) e ∙ rw (other, run_file) refl
+    pub low : laid.fits ≡ true → Low laid.starts
+    low e = subst (λ (x : After Laid). Low x.answer.starts) (sym (laid_by true e).1) (low_starts (pieces_of objects) (leb-true _ _ (laid_by true e).0))
 
-  module _ (memory : length lent.memory ≡ memory_size) where
-    module _ (table : length lent.table ≡ table_size) where
-      exact : run_reading input limit lent (read_file 2 file) ≡ run_file file input limit lent
-      unfolding run_file
-      exact = rw (eq-eqb (length lent.memory) memory_size memory, eq-eqb (length lent.table) table_size table, run_file) refl
-
-      pub refuses : {l : Loaded} {q : Refusal} {run : Run} → l ≡ held (read_file 2 file) → l.outcome ≡ Outcome.Refused q → run ≡ refused_run q
-          → answered run lent ≡ run_file file input limit lent
-      refuses {l} {q} {run} read known e = go (read_file 2 file) (sym (ap (λ x. x.outcome) read) ∙ known) ∙ exact
-        where
-          go : (r : Reading) → (held r).outcome ≡ Outcome.Refused q → answered run lent ≡ run_reading input limit lent r
-          go (whole p) f = absurd (whole_not_refused (sym f))
-          go (Reading.refused q') f = ap (λ x. answered x lent) (e ∙ ap refused_run (same (sym f)))
-            where
-              same : ◌≡◌ {A = Outcome} (Outcome.Refused q) (Outcome.Refused q') → q ≡ q'
-              same z = cc
-
-      pub runnable : {l : Loaded} → l ≡ held (read_file 2 file) → Runnable l lent
-      runnable {l} read = subst (λ (x : Loaded). Runnable x lent) (sym read) (go (read_file 2 file) refl)
-        where
-          go : (r : Reading) → read_file 2 file ≡ r → Runnable (held r) lent
-          go (whole p) e =
-              let g : Good 2 p = good_read 2 file p e in
-              record {
-                lines = (within_bounds 1 2000 (length p.code) g.code_most).1;
-                temps = subst AllNarrow (sym (lines_filled 2000 (line Instr.End) p.code)) (narrow_code (scope_of 2 p) p.code g.code);
-                memory = memory;
-                table = table;
-              }
-          go (Reading.refused q) e = record { lines = omega arith; temps = λ at h. absurd (not-suc-le-zero h); memory = memory; table = table }
-
-      pub runs_whole : {l : Loaded} {x : Answer} → l ≡ held (read_file 2 file) → l.outcome ≡ Outcome.Whole → x ≡ run_loaded l input limit lent
-          → x ≡ run_file file input limit lent
-      runs_whole {l} {x} read known e =
-          e ∙ ap (λ y. run_loaded y input limit lent) read ∙ go (read_file 2 file) refl (sym (ap (λ y. y.outcome) read) ∙ known) ∙ exact
-        where
-          go : (r : Reading) → read_file 2 file ≡ r → (held r).outcome ≡ Outcome.Whole → run_loaded (held r) input limit lent ≡ run_reading input limit lent r
-          go (whole p) q f = runs_program p (good_read 2 file p q) input limit lent memory table
-          go (Reading.refused q') q f = absurd (whole_not_refused f)
+    pub runs_it : laid.fits ≡ true
+        → run_held (take l.code.count l.code.list) laid.starts (take l.objects.count l.objects.list) input limit (lent_of m t room)
+        ≡ run_file file input limit lent
+    runs_it e =
+        (λ i. run_held (code_is r i) ((laid_by true e).1 i).answer.starts (objects_are r i) input limit (lent_of ((laid_by true e).1 i).memory ((laid_by true e).1 i).table room))
+        ∙ program_run ∙ file_run true (laid_by true e).0

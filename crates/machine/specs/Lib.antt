@@ -4,4 +4,3 @@ pub mod Runs
 pub mod Colors
 pub mod Running
 pub mod Turn
-pub mod Start

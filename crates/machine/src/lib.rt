@@ -4,38 +4,21 @@
 ghost use Rattle.std.specs.Prelude.{◌≡◌};
 ghost use Rattle.machine.specs.Running.{run_file, answered, lent_of};
 
-use files::Outcome;
 use memory::lengths::are_exact;
-use numbers::Refusal;
-use stops::{Reason, Run, refused};
+use numbers::refusal::{Cause, Refusal};
+use running::run_code;
+use stops::{Run, refused};
 
-mod temps; // temps.rt: temporaries and calculations
-mod moves; // moves.rt: jumps, input and output
-mod step; // step.rt: one turn
-mod running; // running.rt: the run loop
-mod loaded; // loaded.rt: a run of what was read
 mod lent; // lent.rt: memory, table and heap
-
-// How far a run has come: the counts of numbers taken and out, the next instruction, and the steps. What
-// changes least stands first: in a turn's answer a reason to stop shares the bytes of the first field,
-// and the number there is put together from its bytes in each turn.
-#[derive(Clone, Copy)]
-struct Progress {
-    taken: usize,
-    out: usize,
-    at: usize,
-    steps: u32,
-}
-
-// What one turn answers.
-#[derive(Clone, Copy)]
-enum Turn {
-    Stop(Reason),
-    On(Progress),
-}
+mod moves; // moves.rt: input and output
+mod progress; // progress.rt: how far a run has come
+mod running; // running.rt: the run loop
+mod step; // step.rt: one turn
+mod temps; // temps.rt: temporaries
 
 // Runs a file of version 2 on lent memory and table, with numbers from `input` and to `room`, for at most
 // `limit` steps. Nothing is asked of the caller, and nothing that a file can say does more than stop.
+#[tactic(auto, using(crate::proofs::Loading::few_objects, crate::proofs::Loading::few_instrs), unfolding(crate::specs::Running::run_file))]
 pub fn run_file(
     file: &[u8],
     input: &[u32],
@@ -48,14 +31,32 @@ pub fn run_file(
 {
     if !are_exact(memory, table) {
         return refused(Refusal {
-            number: 11,
+            cause: Cause::WrongLength,
             place: 0,
         });
     }
-    let held = files::read_program(file);
-    let outcome = held.outcome;
-    match outcome {
-        Outcome::Refused(why) => refused(why),
-        Outcome::Whole => loaded::run_loaded(held, input, limit, memory, table, room),
+    let held = match files::read_program(file) {
+        Ok(held) => held,
+        Err(why) => return refused(why),
+    };
+    // Refusal 9 comes before anything is changed.
+    let laid = start::lay(&held.objects, memory, table);
+    if !laid.fits {
+        return refused(Refusal {
+            cause: Cause::LargeGlobals,
+            place: 0,
+        });
     }
+    let code = &held.code.list[..held.code.count];
+    let objects = &held.objects.list[..held.objects.count];
+    run_code(
+        code,
+        &laid.starts,
+        objects,
+        input,
+        limit,
+        memory,
+        table,
+        room,
+    )
 }

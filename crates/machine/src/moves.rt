@@ -1,60 +1,48 @@
-// Jumps, and the numbers that come in and go out.
-ghost use Rattle.std.specs.Prelude.{◌≡◌, ◌<◌, length, slice_set};
+// The numbers that come in and go out.
+ghost use Rattle.std.specs.Prelude.{◌≡◌, ◌<◌, slice_set};
 ghost use Rattle.machine.specs.State.{temp};
-ghost use Rattle.machine.specs.Turn.{Counts, to_place, input_turn, input_temps, output_turn};
-ghost use Rattle.machine.specs.declared.Turn.{Turn};
+ghost use Rattle.machine.specs.Turn.{Counts, input_turn, input_temps, output_turn};
 
-use super::temps::{set_temp, value};
-use super::{Progress, Turn};
+use super::progress::Progress;
+use super::temps::{becomes, value};
 use stops::Reason;
 
-// To instruction p.
-pub(crate) fn jump(from: Progress, p: u16) -> Turn
-    requires { Counts from }
-    ensures { result ≡ Turn.On (to_place from p) }
-{
-    Turn::On(Progress {
-        at: p as usize,
-        steps: from.steps + 1,
-        out: from.out,
-        taken: from.taken,
-    })
-}
-
 // d becomes the next input number.
-pub(crate) fn take_input(input: &[u32], temps: &mut [u32], from: Progress, d: u8) -> Turn
-    requires { (Counts from) × (d < length temps.old) }
+pub(crate) fn take_input(
+    input: &[u32],
+    temps: &mut [u32; 16],
+    from: Progress,
+    d: u8,
+) -> Result<Progress, Reason>
+    requires { (Counts from) × (d < 16) }
     ensures value { result ≡ input_turn input.now from }
     ensures temps_after { temps.new ≡ input_temps input.now from temps.old d }
 {
-    let taken = from.taken;
-    if input.len() <= taken {
-        return Turn::Stop(Reason::NoInput);
-    }
-    set_temp(temps, d, input[taken]);
-    Turn::On(Progress {
-        at: from.at + 1,
-        steps: from.steps + 1,
-        out: from.out,
-        taken: taken + 1,
+    let number = *input.get(from.taken).ok_or(Reason::NoInput)?;
+    let next = becomes(from, d, number, temps);
+    Ok(Progress {
+        taken: from.taken + 1,
+        ..next
     })
 }
 
 // One output number.
-pub(crate) fn put_out(temps: &[u32], room: &mut [u32], from: Progress, a: u8) -> Turn
-    requires { (Counts from) × (a < length temps.now) }
+pub(crate) fn put_out(
+    temps: &[u32; 16],
+    room: &mut [u32],
+    from: Progress,
+    a: u8,
+) -> Result<Progress, Reason>
+    requires { (Counts from) × (a < 16) }
     ensures value { result ≡ output_turn room.old from }
     ensures room_after { room.new ≡ slice_set room.old from.out (temp temps.now a) }
 {
-    let out = from.out;
-    if room.len() <= out {
-        return Turn::Stop(Reason::NoRoom);
+    if room.len() <= from.out {
+        return Err(Reason::NoRoom);
     }
-    room[out] = value(temps, a);
-    Turn::On(Progress {
-        at: from.at + 1,
-        steps: from.steps + 1,
-        out: out + 1,
-        taken: from.taken,
+    room[from.out] = value(temps, a);
+    Ok(Progress {
+        out: from.out + 1,
+        ..from.completed()
     })
 }

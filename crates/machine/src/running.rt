@@ -1,67 +1,53 @@
-// The run loop. It holds the decoded instructions and copies nothing but one of them in a turn.
+// The run loop. It copies nothing but one instruction in a turn.
 ghost use Rattle.std.specs.Prelude.{◌≡◌, ◌≤◌, length};
 ghost use Rattle.memory.specs.Memory.{memory_size, table_size};
-ghost use Rattle.stops.specs.Held.{code_of};
-ghost use Rattle.machine.specs.Turn.{Low, AllNarrow, run_held};
+ghost use Rattle.machine.specs.Turn.{Low, AllNarrow, run_held, record_at};
 ghost use Rattle.machine.specs.Running.{answered, lent_of};
 
+use super::progress::Progress;
 use super::step::step;
-use super::{Progress, Turn};
-use files::Line;
+use opcodes::{Instr, Object};
 use stops::place::recorded;
 use stops::{Reason, Run};
 
+// The record of a stop.
+fn stopped(code: &[Instr], now: Progress, reason: Reason) -> Run
+    ensures { result ≡ record_at code.now now reason }
+{
+    recorded(code, now.at, now.steps, now.out, now.taken, reason)
+}
+
 pub(crate) fn run_code(
-    code: [Line; 2000],
-    lines: usize,
-    starts: [u32; 400],
-    colors: [u8; 400],
+    code: &[Instr],
+    starts: &[u32],
+    objects: &[Object],
     input: &[u32],
     limit: u32,
     memory: &mut [u8],
     table: &mut [u8],
     room: &mut [u32],
 ) -> Run
-    requires { (lines ≤ 2000) × (Low starts) × (length memory.old ≡ memory_size) × (length table.old ≡ table_size) × (AllNarrow (code_of code lines)) }
-    ensures { answered result (lent_of memory.new table.new room.new) ≡ run_held (code_of code lines) starts colors input.now limit (lent_of memory.old table.old room.old) }
+    requires { (length code.now ≤ 2000) × (Low starts.now) × (length memory.old ≡ memory_size) × (length table.old ≡ table_size) × (AllNarrow code.now) }
+    ensures { answered result (lent_of memory.new table.new room.new) ≡ run_held code.now starts.now objects.now input.now limit (lent_of memory.old table.old room.old) }
 {
-    let mut temps = [0u32; 16];
+    let mut temps = [0; 16];
     let mut now = Progress {
+        taken: 0,
+        out: 0,
         at: 0,
         steps: 0,
-        out: 0,
-        taken: 0,
     };
-    loop {
-        let at = now.at;
-        let steps = now.steps;
-        // Past the last one first, then the limit, and both before a check too.
-        if lines <= at {
-            return recorded(code, lines, at, steps, now.out, now.taken, Reason::PastEnd);
+    // Past the last one first, then the limit, and both before a check too.
+    while let Some(i) = code.get(now.at) {
+        if limit <= now.steps {
+            return stopped(code, now, Reason::LimitUsed);
         }
-        if limit <= steps {
-            return recorded(
-                code,
-                lines,
-                at,
-                steps,
-                now.out,
-                now.taken,
-                Reason::LimitUsed,
-            );
-        }
-        let line = code[at];
-        let i = line.instr;
-        let turn = step(
-            i, now, &starts, &colors, input, &mut temps, memory, table, room,
-        );
-        match turn {
-            Turn::Stop(reason) => {
-                return recorded(code, lines, at, steps, now.out, now.taken, reason);
-            }
-            Turn::On(next) => {
-                now = next;
-            }
+        match step(
+            *i, now, starts, objects, input, &mut temps, memory, table, room,
+        ) {
+            Ok(next) => now = next,
+            Err(reason) => return stopped(code, now, reason),
         }
     }
+    stopped(code, now, Reason::PastEnd)
 }

@@ -8,10 +8,11 @@ use lib.ListN.{length, get_or, take, drop, replicate, length-drop}
 use Rattle.std.proofs.Common.{zero-add, add-zero, add_assoc}
 use Rattle.std.proofs.lemmas.List.{get_or-take, get_or-drop}
 use lib.Seq.{sets-eq, drop-length, length-take-le, drop-drop}
-use borrow.Author.Tests.{le-leb}
-use Rattle.std.specs.Prelude.{Some}
-use Rattle.memory.specs.Lent.{loaded, stored}
-use Rattle.memory.specs.Memory.{number_at, bytes_of, put, fill}
+use mathlib.Core.Bool.{false}
+use borrow.Author.Tests.{le-leb, lt-leb}
+use Rattle.std.specs.Prelude.{Some, None}
+use Rattle.memory.specs.Lent.{within, number_within, loaded, stored, painted}
+use Rattle.memory.specs.Memory.{slot, number_at, bytes_of, put, fill, paint}
 use Rattle.memory.proofs.Memory.{length-bytes_of}
 
 -- a part that was lent on and came back filled: n elements from index a on
@@ -71,3 +72,21 @@ module _ (n : ℕ) (m : List ℕ) (a k : ℕ) (e : k ≡ n) (fits : a + n ≤ le
       is ∙ sym (store_inside n piece 0 v (omega (arith, long)) _ refl) ∙ written_over piece bytes (long ∙ sym count) in
       store_inside n m a v fits _
       (rw (there, e, drop-drop) (sym (append_assoc (take a m) bytes (drop (a + n) m)) ∙ sym (sets-eq bytes m a (omega arith) ∙ rw count refl)))
+
+-- ---- where a number does not lie inside, and where a part is filled or painted whole
+
+pub number_outside : (n : ℕ) (m : List ℕ) (a : ℕ) → length m < a + n → 0 ≡ number_within n m a
+number_outside n m a h = rw (lt-leb (a + n) (length m) h, number_within) refl
+
+module _ (n : ℕ) (m : List ℕ) (a v : ℕ) where
+  pub load_outside : length m < a + n → None ≡ loaded n m a
+  load_outside h = rw (lt-leb (a + n) (length m) h, loaded) refl
+
+  pub store_outside : length m < a + n → (false ≡ within n m a) × (m ≡ stored n m a v)
+  store_outside h = (sym (lt-leb (a + n) (length m) h), rw (lt-leb (a + n) (length m) h, stored) refl)
+
+pub filled_whole : (part : List ℕ) (i v : ℕ) → length part ≡ i → replicate i v ++ drop i part ≡ replicate (length part) v
+filled_whole part i v e = rw (← e) (ap (λ r. replicate (length part) v ++ r) (drop-length part) ∙ append-nil (replicate (length part) v))
+
+pub painted_inside : (t : List ℕ) (a n color : ℕ) (after : List ℕ) → slot a + slot n ≤ length t → after ≡ paint t a n color → after ≡ painted t a n color
+painted_inside t a n color after h e = rw (le-leb (slot a + slot n) (length t) h, painted) e

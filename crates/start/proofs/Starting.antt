@@ -13,7 +13,7 @@ use Rattle.std.specs.List.{range_with_len}
 use lib.ListN.{length, get_or, replicate, length-append, length-map, length-replicate, get_or-map}
 use lib.Seq.{append_snoc, get_or-append_seam}
 use lib.Dec.{eqb}
-use borrow.Author.Tests.{eqb-true, leb-true}
+use borrow.Author.Tests.{eqb-true, leb-true, ne_eqb}
 use Rattle.opcodes.specs.declared.Object.{Object}
 use Rattle.opcodes.specs.View.{extent}
 use Rattle.files.specs.Held.{blank, filled, objects_held}
@@ -168,3 +168,7 @@ module _ (p : Program) (memory table : List ℕ) (most : length p.objects ≤ 40
             table = laid_first (leb-true _ _ e) i;
           }
       go false e = refl
+
+-- a heap site has no slots
+pub paints_not : (table : List ℕ) (start : ℕ) (o : Object) → (o.kind ≡ 0 → ⊥) → table ≡ paint_one table start o
+paints_not table start o site = rw (ne_eqb o.kind 0 site, paint_one) refl

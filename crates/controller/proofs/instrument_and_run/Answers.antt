@@ -1,25 +1,22 @@
 use mathlib.Core.Path.{sym, ap, ◌∙◌}
+use Prim.Native.Nat.{ℕ}
+use lib.ListN.{replicate, length-replicate}
 use Rattle.stops.specs.declared.Run.{Run}
-use Rattle.stops.specs.Stop.{refused_run}
-use Rattle.controller.specs.Inside.{why_not}
-use Rattle.controller.proofs.Controlled.{refused_so, written_so}
 use Rattle.machine.specs.Running.{answered, lent_of}
+use Rattle.controller.proofs.Controlled.{refused_so, written_so}
 use Rattle.controller.proofs.instrument_and_run.Goals as goal
 
-pub returns-in_default : goal.returns-in_default
-returns-in_default c =
-    let s = c in
-    let called = c.instrument-answer.ensures in
-    let told = c.in_default.is in
-    ap (λ (r : Run). answered r (lent_of s.args.memory.now s.args.table.now s.args.room.now))
-    (c.refused.ensures ∙ ap refused_run (c.why_not.ensures ∙ ap why_not told))
-    ∙ sym (refused_so s.args.file.now s.args.input.now s.args.limit s.args.memory.now s.args.table.now s.args.room.now
-    s.requires.0 s.requires.1 c.blank_room-code.result c.blank_room-code.ensures _ (sym called.answer ∙ told))
-
-pub returns : goal.returns
-returns c =
-    let s = c in
-    let called = c.instrument-answer.ensures in
+pub returns-in-Ok : goal.returns-in-Ok
+returns-in-Ok c =
+    let a = c.args in
+    let called = c.instrument.ensures in
     c.run_file.ensures
-    ∙ (written_so s.args.file.now s.args.input.now s.args.limit s.args.memory.now s.args.table.now s.args.room.now
-    s.requires.0 s.requires.1 c.blank_room-code.result c.blank_room-code.ensures _ _ (sym called.answer ∙ c.in-Written.is) called.room).1
+    ∙ (written_so a.file.now a.input.now a.limit a.memory.now a.table.now a.room.now
+    c.requires.0 c.requires.1 (replicate 32768 0) (length-replicate {A = ℕ} 32768 0) _ _ (sym called.answer ∙ c.in-Ok.is) called.room).1
+
+pub returns-in-Err : goal.returns-in-Err
+returns-in-Err c =
+    let a = c.args in
+    ap (λ (r : Run). answered r (lent_of a.memory.now a.table.now a.room.now)) c.refused.ensures
+    ∙ sym (refused_so a.file.now a.input.now a.limit a.memory.now a.table.now a.room.now
+    c.requires.0 c.requires.1 (replicate 32768 0) (length-replicate {A = ℕ} 32768 0) _ (sym c.instrument.ensures.answer ∙ c.in-Err.is))

@@ -1,29 +1,34 @@
--- `machine::run_file` meets its contract. Each return by its law of Loading.
-use Rattle.std.proofs.Common.{sym, ◌∙◌}
+-- `machine::run_file` meets its contract.
+use Rattle.std.proofs.Common.{◌≡◌, true, ap, ◌∙◌, rules}
 use Rattle.memory.proofs.Exact.{exact_lengths_lem}
-use Rattle.machine.specs.Running.{lent_of}
-use Rattle.machine.proofs.Loading.{wrong_lengths, refuses, runnable, runs_whole}
+use Rattle.stops.specs.declared.Run.{Run}
+use Rattle.machine.specs.Running.{exact_lengths, lent_of, answered}
+use Rattle.machine.proofs.Loading.{read_as, few_lines, narrow, low, long, runs_it}
 use Rattle.machine.proofs.run_file.Goals as goal
 
-pub returns-then-not-are_exact : goal.returns-then-not-are_exact
-returns-then-not-are_exact c = let a = c.args in
-    wrong_lengths a.file.now a.input.now a.limit (lent_of a.memory.now a.table.now a.room.now)
-    (sym c.are_exact.ensures ∙ c.if-not-are_exact.true) c.refused.ensures
+pub returns-then-not-laid : goal.returns-then-not-laid
+returns-then-not-laid c = let a = c.args in
+    let l = c.lay-laid in
+    let exact : exact_lengths (lent_of a.memory.now a.table.now a.room.now) ≡ true = search rules in
+    ap (λ (x : Run). answered x (lent_of l.new.memory l.new.table a.room.now)) c.refused-then-not-laid.ensures
+    ∙ long _ _ _ _ _ _ (read_as c.in-Ok.ensures) exact l.ensures.value l.ensures.memory_after l.ensures.table_after c.if-not-laid.true
 
-pub run_loaded-requires : goal.run_loaded-requires
-run_loaded-requires c = let a = c.args in
-    let both = exact_lengths_lem a.memory.now a.table.now (sym c.are_exact.ensures ∙ c.if-not-are_exact.false) in
-    runnable a.file.now a.input.now a.limit (lent_of a.memory.now a.table.now a.room.now) both.0 both.1
-    c.read_program-held.ensures
+pub run_code-requires : goal.run_code-requires
+run_code-requires c = let a = c.args in
+    let l = c.lay-laid in
+    let exact : exact_lengths (lent_of a.memory.now a.table.now a.room.now) ≡ true = search rules in
+    let r = read_as c.in-Ok.ensures in
+    let both = exact_lengths_lem a.memory.now a.table.now exact in (
+      few_lines r,
+      low _ a.input.now a.limit _ _ a.room.now r exact l.ensures.value l.ensures.memory_after l.ensures.table_after c.if-not-laid.false,
+      l.auto.memory ∙ both.0,
+      l.auto.table ∙ both.1,
+      narrow r,
+    )
 
-pub returns-in-Refused : goal.returns-in-Refused
-returns-in-Refused c = let a = c.args in
-    let both = exact_lengths_lem a.memory.now a.table.now (sym c.are_exact.ensures ∙ c.if-not-are_exact.false) in
-    refuses a.file.now a.input.now a.limit (lent_of a.memory.now a.table.now a.room.now) both.0 both.1
-    c.read_program-held.ensures c.in-Refused.is c.refused-in-Refused.ensures
-
-pub returns-in-Whole : goal.returns-in-Whole
-returns-in-Whole c = let a = c.args in
-    let both = exact_lengths_lem a.memory.now a.table.now (sym c.are_exact.ensures ∙ c.if-not-are_exact.false) in
-    runs_whole a.file.now a.input.now a.limit (lent_of a.memory.now a.table.now a.room.now) both.0 both.1
-    c.read_program-held.ensures c.in-Whole.is c.run_loaded.ensures
+pub returns : goal.returns
+returns c = let a = c.args in
+    let l = c.lay-laid in
+    let exact : exact_lengths (lent_of a.memory.now a.table.now a.room.now) ≡ true = search rules in
+    c.run_code.ensures
+    ∙ runs_it _ _ _ _ _ _ (read_as c.in-Ok.ensures) exact l.ensures.value l.ensures.memory_after l.ensures.table_after c.if-not-laid.false
