@@ -10,8 +10,7 @@ use mathlib.Core.Path.{◌≡◌}
 use mathlib.Core.Logic.{⊎_elim}
 use mathlib.Core.List.{List, []}
 use mathlib.Core.Bool.{Bool, true, false}
-use lib.ListN.{length, get_or, take, replicate, length-replicate, get_or-replicate, get_or-eq_default}
-use Rattle.std.specs.Prelude.{Option, Some, None}
+use lib.ListN.{length, get_or, take, replicate, length-replicate, get_or-replicate}
 use Rattle.files.specs.Program.{Program}
 use Rattle.files.proofs.RoundTrip.{Good}
 use Rattle.safety.specs.declared.Nature.TheVariants.{Listed}
@@ -22,26 +21,23 @@ use Rattle.coloring.specs.Labels.{Lowest, classes_in, color_by, sets_joined, own
 use Rattle.files.proofs.Tests.{no_test}
 use Rattle.coloring.proofs.Members.{holds_here, holds_nil, holds_cases}
 use Rattle.coloring.proofs.Tinted.{tinted_alike}
-use Rattle.coloring.proofs.Joining.{at, Sound, Together, together_trans, below_or}
+use Rattle.coloring.proofs.Joining.{Sound, Together, together_trans}
 use Rattle.coloring.proofs.Spans.{AllJoined, sets_joined_lem}
 use Rattle.coloring.proofs.Marking.{Named, sizes, place_in, in_chain, own_in, listed_in, From, own, listed, set_from, OwnsMarked, owns_marked_lem, uses_only, uses_named}
 use Rattle.coloring.proofs.Labelled.{classes_are, colors_are}
-use Rattle.coloring.proofs.Bounds.{sets_most, own_below, listed_below, member_below}
+use Rattle.coloring.proofs.Bounds.{sets_most, own_below, listed_below, member_below, unsafe_below}
 
--- at the start no object has a label
-blank_at : (x : ℕ) → at (replicate 400 None) x ≡ None
-blank_at x = ⊎_elim (get_or-replicate 400 x None None) (λ b. get_or-eq_default (replicate 400 None) None {n = x} (omega (arith, length-replicate {A = Option ℕ} 400 None, b))) (below_or x 400)
-
-unlabelled : (sets : List (List ℕ)) → Sound sets (replicate 400 None)
+unlabelled : (sets : List (List ℕ)) → Sound sets (replicate 400 400)
 unlabelled sets =
     record {
-      wide = length-replicate {A = Option ℕ} 400 None;
-      lowest = record { low = λ x v e. absurd (never x v e); self = λ x v e. absurd (never x v e) };
-      chained = λ x y v e f. absurd (never x v e);
+      wide = length-replicate {A = ℕ} 400 400;
+      lowest =
+          record {
+            low = λ x h b. absurd (omega (arith, get_or-replicate {A = ℕ} 400 x 400 0 h, b));
+            self = λ x h b. absurd (omega (arith, get_or-replicate {A = ℕ} 400 x 400 0 h, b));
+          };
+      chained = λ x y h k b. absurd (omega (arith, get_or-replicate {A = ℕ} 400 x 400 0 h, b));
     }
-  where
-    never : (x v : ℕ) → at (replicate 400 None) x ≡ Some v → ⊥
-    never x v e = let f : at (replicate 400 None) x ≡ None = blank_at x in cc
 
 unused : (s : ℕ) → s < 400 → get_or (replicate 400 false) s false ≡ false
 unused s h = get_or-replicate 400 s false false h
@@ -50,21 +46,21 @@ module _ (p : Program) (good : Good 1 p) where
   abbrev full : List (List ℕ)
   full = unsafe_sets p
 
-  abbrev marks : List (Option ℕ)
-  marks = owns_marked (sizes p) (replicate 400 None) p.code
+  abbrev marks : List ℕ
+  marks = owns_marked (sizes p) (replicate 400 400) p.code
 
   abbrev used : List Bool
   used = uses_marked (sizes p) (replicate 400 false) p.code
 
-  abbrev labels : List (Option ℕ)
+  abbrev labels : List ℕ
   labels = sets_joined used 0 marks p.sets
 
   object_most : (x : ℕ) → x < length p.objects → x < 400
   object_most x h = omega (arith, h, good.objects_most)
 
-  marked : OwnsMarked full (sizes p) p.code (replicate 400 None) marks
+  marked : OwnsMarked full (sizes p) p.code (replicate 400 400) marks
   marked =
-      owns_marked_lem full (sizes p) p.code (replicate 400 None) (unlabelled full)
+      owns_marked_lem full (sizes p) p.code (replicate 400 400) (unlabelled full)
       (λ g h. (object_most g (own_below p good g h), in_chain (own_in p h) g g (holds_here g []) (holds_here g [])))
 
   -- a set that is used is named by an instruction
@@ -88,7 +84,8 @@ module _ (p : Program) (good : Good 1 p) where
   from_together t (own {g} n) x y hx hy =
       let ex : x ≡ g = ⊎_elim (λ e. e) (λ q. holds_nil x q) (holds_cases x g [] hx) in
       let ey : y ≡ g = ⊎_elim (λ e. e) (λ q. holds_nil y q) (holds_cases y g [] hy) in
-      let both : Together labels g g = all_joined.step.kept g g (marked.inside g n) in
+      let b : g < 400 = object_most g (own_below p good g n) in
+      let both : Together labels g g = all_joined.step.kept g g b b (marked.inside g n) in
       rw (ex, ey) both
   from_together t (listed {s} n) x y hx hy =
       let h : s < length p.sets = listed_below p good s n in
@@ -104,7 +101,7 @@ module _ (p : Program) (good : Good 1 p) where
   -- what a chain joins has one label
   labels_chains : (x y : ℕ) → Chain full x y → Together labels x y
   labels_chains x y (last n) = neighbours_together x y n
-  labels_chains x z (link {y} n c) = together_trans (neighbours_together x y n) (labels_chains y z c)
+  labels_chains x z (link {y} n c) = together_trans labels x y z (neighbours_together x y n) (labels_chains y z c)
 
   sound : Sound full labels
   sound = all_joined.step.sound
@@ -117,10 +114,10 @@ module _ (p : Program) (good : Good 1 p) where
 
   pub counted : classes_in (take (length p.objects) (labels_of p)) ≡ class_count p
   unfolding labels_of
-  counted = classes_are full labels sound labels_chains (length p.objects) good.objects_most
+  counted = classes_are full labels sound labels_chains (λ x u. object_most x (unsafe_below p good x u)) (length p.objects) good.objects_most
 
   pub colors : tinted (color_by (labels_of p)) 0 p.objects ≡ tinted (color_in p) 0 p.objects
   unfolding labels_of
   colors =
       tinted_alike (color_by labels) (color_in p) 0 p.objects
-      (λ i h. let z : 0 + i ≡ i = omega arith in rw z (colors_are full labels sound labels_chains i (object_most i h)))
+      (λ i h. let z : 0 + i ≡ i = omega arith in rw z (colors_are full labels sound labels_chains (λ x u. object_most x (unsafe_below p good x u)) i (object_most i h)))

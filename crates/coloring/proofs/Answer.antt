@@ -25,18 +25,18 @@ use Rattle.coloring.proofs.Agrees.{lowest_labels, counted, colors}
 
 -- ---- what was read
 
--- a good program, which the arrays hold
-record Whole (l : Loaded) : Type 0 where
+-- a good program, which is held
+record Sound (l : Loaded) : Type 0 where
   p : Program
   good : Good 1 p
   held_so : l ≡ held_as p
   said : program_in l ≡ p
 
 module _ (file : List ℕ) (l : Loaded) (e : ◌≡◌ {A = Result Loaded Refusal} (Ok l) (held (read_file 1 file))) where
-  read_whole : Whole l × (read_file 1 file ≡ whole (program_in l))
-  read_whole = go (read_file 1 file) refl e
+  sound : Sound l × (read_file 1 file ≡ whole (program_in l))
+  sound = go (read_file 1 file) refl e
     where
-      go : (q : Reading) → read_file 1 file ≡ q → ◌≡◌ {A = Result Loaded Refusal} (Ok l) (held q) → Whole l × (read_file 1 file ≡ whole (program_in l))
+      go : (q : Reading) → read_file 1 file ≡ q → ◌≡◌ {A = Result Loaded Refusal} (Ok l) (held q) → Sound l × (read_file 1 file ≡ whole (program_in l))
       go (whole p) f g =
           let h : l ≡ held_as p = cc in
           let s : program_in l ≡ p = ap program_in h ∙ program_held p in
@@ -45,7 +45,7 @@ module _ (file : List ℕ) (l : Loaded) (e : ◌≡◌ {A = Result Loaded Refusa
 
   pub is_read : IsRead l
   is_read =
-      let s : Whole l = read_whole.0 in
+      let s : Sound l = sound.0 in
       rw s.held_so
       (record {
         file = file;
@@ -56,7 +56,7 @@ module _ (file : List ℕ) (l : Loaded) (e : ◌≡◌ {A = Result Loaded Refusa
       })
 
   pub read_colored : held (colored (read_file 1 file)) ≡ held (colored (whole (program_in l)))
-  read_colored = ap (λ (r : Reading). held (colored r)) read_whole.1
+  read_colored = ap (λ (r : Reading). held (colored r)) sound.1
 
 pub read_refused : (file : List ℕ) (q : Refusal) → ◌≡◌ {A = Result Loaded Refusal} (Err q) (held (read_file 1 file)) → ◌≡◌ {A = Result Loaded Refusal} (Err q) (held (colored (read_file 1 file)))
 unfolding colored
@@ -95,8 +95,8 @@ module _ (p : Program) (good : Good 1 p) where
       ∙ sym (ap pick (le-leb (class_count p) 254 (omega (arith, counted p good))))
 
 module _ (l : Loaded) (read : IsRead l) where
-  s : Whole l
-  s = (read_whole read.file l read.reading).0
+  s : Sound l
+  s = (sound read.file l read.reading).0
 
   pub labels_lowest : Lowest (labels_of (program_in l))
   labels_lowest = rw s.said (lowest_labels s.p s.good)

@@ -236,3 +236,17 @@ chain_unsafe sets x y (link n c) = some_at (λ s. holds s x) sets n.at n.inside 
 
 pub class_unsafe : (sets : List (List ℕ)) (x y : ℕ) → same_class sets x y ≡ true → unsafe_object sets x ≡ true
 class_unsafe sets x y h = chain_unsafe sets x y ((class_is_chain sets x y).0 h)
+
+-- being of one class is an equivalence on the unsafe objects
+pub unsafe_is_classed : (sets : List (List ℕ)) (x : ℕ) → (unsafe_object sets x ≡ true → same_class sets x x ≡ true) × (same_class sets x x ≡ true → unsafe_object sets x ≡ true)
+unsafe_is_classed sets x = (class_self sets x, class_unsafe sets x x)
+
+-- so an object has the class of every object that it is chained to, tested from either side
+pub class_row : (sets : List (List ℕ)) (x y z : ℕ) → same_class sets x y ≡ true → same_class sets z x ≡ same_class sets z y
+class_row sets x y z h = go (same_class sets z x) (same_class sets z y) refl refl
+  where
+    go : (a b : Bool) → same_class sets z x ≡ a → same_class sets z y ≡ b → a ≡ b
+    go true true e f = refl
+    go true false e f = no_test (class_trans sets z x y e h) f
+    go false true e f = no_test (class_trans sets z y x f (class_sym sets x y h)) e
+    go false false e f = refl

@@ -9,7 +9,6 @@ use mathlib.Core.Bool.{Bool, true, false}
 use lib.ListN.{length, get_or, set, length-set}
 use lib.Seq.{get_or-set_same, get_or-set_other}
 use borrow.Author.Tests.{lt-ltb, le-ltb}
-use Rattle.std.specs.Prelude.{Option}
 use Rattle.opcodes.specs.declared.Instr.{Instr}
 use Rattle.files.specs.Program.{Program}
 use Rattle.opcodes.specs.View.{Aim, in_global, at_temp, View, act, jump, jump_if, store, check, view, bytes}
@@ -20,7 +19,7 @@ use Rattle.safety.specs.Unsafe.{size_of, safe_put, Unsafe, unsafe_set, sets_in}
 use Rattle.coloring.specs.Class.{holds, Neighbours, Chain, last}
 use Rattle.coloring.specs.Labels.{touched, own_marked, use_marked, owns_marked, uses_marked}
 use Rattle.files.proofs.Tests.{no_test}
-use Rattle.coloring.proofs.Joining.{Sound, Together, Step, step_none, step_on, touched_step, touched_in, below_or, equal_or}
+use Rattle.coloring.proofs.Joining.{at, Sound, Together, Step, step_none, step_on, touched_step, touched_in, below_or, equal_or}
 
 -- ---- the natures of the code, and the sets that they name
 
@@ -132,37 +131,37 @@ module _ (sets : List (List ℕ)) (size : ℕ → ℕ) where
   abbrev Fine : Nature → Type 0
   Fine n = (g : ℕ) → n ≡ Own g → (g < 400) × Chain sets g g
 
-  mark_own : (l : List (Option ℕ)) (g : ℕ) → g < 400 → own_marked l (Own g) ≡ touched l g
+  mark_own : (l : List ℕ) (g : ℕ) → g < 400 → own_marked l (Own g) ≡ touched l g
   mark_own l g h = rw (lt-ltb g 400 h, own_marked)
 
-  mark_step : (n : Nature) (l : List (Option ℕ)) → Sound sets l → Fine n → Step sets l (own_marked l n)
-  mark_step Safe l s f = step_none s
+  mark_step : (n : Nature) (l : List ℕ) → Sound sets l → Fine n → Step sets l (own_marked l n)
+  mark_step Safe l s f = step_none sets l s
   mark_step (Own g) l s f = rw (mark_own l g (f g refl).0) (touched_step sets l s g (f g refl).0 (f g refl).1)
-  mark_step (Listed t) l s f = step_none s
-  mark_step (Jump t) l s f = step_none s
-  mark_step Check l s f = step_none s
-  mark_step Other l s f = step_none s
+  mark_step (Listed t) l s f = step_none sets l s
+  mark_step (Jump t) l s f = step_none sets l s
+  mark_step Check l s f = step_none sets l s
+  mark_step Other l s f = step_none sets l s
 
-  mark_in : (l : List (Option ℕ)) (g : ℕ) (n : Nature) → Sound sets l → g < 400 → n ≡ Own g → Together (own_marked l n) g g
+  mark_in : (l : List ℕ) (g : ℕ) (n : Nature) → Sound sets l → g < 400 → n ≡ Own g → at (own_marked l n) g < 400
   mark_in l g n s h e = rw e (rw (mark_own l g h) (touched_in sets l s g h))
 
-  pub record OwnsMarked (code : List Instr) (l m : List (Option ℕ)) : Type 0 where
+  pub record OwnsMarked (code : List Instr) (l m : List ℕ) : Type 0 where
     pub step : Step sets l m
     pub inside : (g : ℕ) → Named size (Own g) code → Together m g g
 
-  pub owns_marked_lem : (code : List Instr) (l : List (Option ℕ)) → Sound sets l → ((g : ℕ) → Named size (Own g) code → (g < 400) × Chain sets g g) → OwnsMarked code l (owns_marked size l code)
-  owns_marked_lem [] l s f = record { step = step_none s; inside = λ g h. elim h [ ] }
+  pub owns_marked_lem : (code : List Instr) (l : List ℕ) → Sound sets l → ((g : ℕ) → Named size (Own g) code → (g < 400) × Chain sets g g) → OwnsMarked code l (owns_marked size l code)
+  owns_marked_lem [] l s f = record { step = step_none sets l s; inside = λ g h. elim h [ ] }
   owns_marked_lem (i ∷ is) l s f =
       let n : Nature = nature_of size (view i) in
       let one : Step sets l (own_marked l n) = mark_step n l s (λ g e. f g (here e)) in
       let r : OwnsMarked is (own_marked l n) (owns_marked size (own_marked l n) is) = owns_marked_lem is (own_marked l n) one.sound (λ g h. f g (there h)) in
       record { step = step_on one r.step; inside = within (own_marked l n) (owns_marked size (own_marked l n) is) r (λ g e b. mark_in l g n s b e) }
     where
-      within : (k m : List (Option ℕ)) → OwnsMarked is k m → ((g : ℕ) → nature_of size (view i) ≡ Own g → g < 400 → Together k g g)
+      within : (k m : List ℕ) → OwnsMarked is k m → ((g : ℕ) → nature_of size (view i) ≡ Own g → g < 400 → at k g < 400)
           → (g : ℕ) → Named size (Own g) (i ∷ is) → Together m g g
       within k m r z g (here e) =
           let b : g < 400 = (f g (here e)).0 in
-          r.step.kept g g (z g e b)
+          r.step.kept g g b b (z g e b, refl)
       within k m r z g (there h) = r.inside g h
 
 -- the sets in use

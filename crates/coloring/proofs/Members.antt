@@ -80,6 +80,9 @@ unsafe_left x y cs h = some_map (holds_both x y) (λ s. holds s x) (both_left x 
 pub unsafe_right : (x y : ℕ) (cs : List (List ℕ)) → some (holds_both x y) cs ≡ true → unsafe_object cs y ≡ true
 unsafe_right x y cs h = some_map (holds_both x y) (λ s. holds s y) (both_right x y) cs h
 
+pub unsafe_both : (x : ℕ) (cs : List (List ℕ)) → unsafe_object cs x ≡ true → some (holds_both x x) cs ≡ true
+unsafe_both x cs h = some_map (λ s. holds s x) (holds_both x x) (λ s p. both_true x x s p p) cs h
+
 -- ---- lists of object numbers
 
 pub holds_here : (y : ℕ) (ys : List ℕ) → holds (y ∷ ys) y ≡ true

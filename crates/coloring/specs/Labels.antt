@@ -1,11 +1,9 @@
 -- The coloring while it is computed. The contracts inside the crate cite this; no promise to another crate does.
 --
--- An object's label is the lowest object of its class so far, and `None` where it has no class.
-use Rattle.std.specs.Prelude.{ℕ, ◌+◌, ◌≤◌, ◌<◌, ◌≡◌, List, [], ◌∷◌, ◌++◌, Bool, true, false, Option, Some, None, is_none, Result, Ok, get_or, set, map, take, drop, replicate, slice_range, min, max, ltb, nat_eq, count_by}
+-- An object's label is the lowest object of its class so far, and 400 or more where it has no class.
+use Rattle.std.specs.Prelude.{ℕ, ◌+◌, ◌≤◌, ◌<◌, ◌≡◌, ◌==◌, List, [], ◌∷◌, ◌++◌, Bool, true, false, Result, Ok, get_or, set, map, take, drop, replicate, slice_range, min, max, ltb, eqb, count_by}
 use Rattle.std.specs.List.{fold, enumerate_from}
-use Rattle.std.specs.Option.{option_eq}
 use Rattle.numbers.specs.declared.refusal.Refusal.{Refusal}
-use Rattle.opcodes.specs.declared.Object.{Object}
 use Rattle.opcodes.specs.declared.Instr.{Instr}
 use Rattle.opcodes.specs.View.{view}
 use Rattle.files.specs.declared.arrays.Objects.{Objects}
@@ -13,7 +11,7 @@ use Rattle.files.specs.declared.arrays.Sets.{Sets}
 use Rattle.files.specs.declared.arrays.Loaded.{Loaded}
 use Rattle.files.specs.Program.{Program}
 use Rattle.files.specs.Reading.{read_file}
-use Rattle.files.specs.Held.{blank, held}
+use Rattle.files.specs.Held.{held}
 use Rattle.safety.specs.declared.Nature.{Nature}
 use Rattle.safety.specs.Unsafe.{size_of}
 use Rattle.safety.specs.Nature.{nature_of}
@@ -22,42 +20,37 @@ use Rattle.coloring.specs.Colored.{tinted}
 -- ---- joining classes
 
 -- x has a class from now on
-abbrev pub touched : List (Option ℕ) → (x : ℕ) → List (Option ℕ)
-touched labels x = elim (is_none (get_or labels x None)) [ true ↦ set labels x (Some x) | false ↦ labels ]
+abbrev pub touched : List ℕ → (x : ℕ) → List ℕ
+touched labels x = elim (ltb (get_or labels x 0) 400) [ true ↦ labels | false ↦ set labels x x ]
 
-abbrev pub renamed : (from to : ℕ) → Option ℕ → Option ℕ
-renamed from to label = elim (option_eq nat_eq label (Some from)) [ true ↦ Some to | false ↦ label ]
+abbrev pub renamed : (from to label : ℕ) → ℕ
+renamed from to label = elim (eqb label from) [ true ↦ to | false ↦ label ]
 
--- the classes of two labels become one, with the lower label
-abbrev pub merged : (one other : Option ℕ) → List (Option ℕ) → List (Option ℕ)
-merged None other labels = labels
-merged (Some v) None labels = labels
-merged (Some v) (Some w) labels = map (renamed (max v w) (min v w)) labels
-
--- a and b are of one class
-abbrev pub united : List (Option ℕ) → (a b : ℕ) → List (Option ℕ)
-united labels a b = merged (get_or labels a None) (get_or labels b None) labels
+-- a and b are of one class, which keeps the lower label
+abbrev pub united : List ℕ → (a b : ℕ) → List ℕ
+united labels a b =
+    map (renamed (max (get_or labels a 0) (get_or labels b 0)) (min (get_or labels a 0) (get_or labels b 0))) labels
 
 -- x is of the class of `first`
-abbrev pub joined_to : (first : ℕ) → List (Option ℕ) → (x : ℕ) → List (Option ℕ)
+abbrev pub joined_to : (first : ℕ) → List ℕ → (x : ℕ) → List ℕ
 joined_to first labels x = united (touched labels x) first x
 
 -- all of a set are of one class
-abbrev pub set_joined : List (Option ℕ) → (set : List ℕ) → List (Option ℕ)
+abbrev pub set_joined : List ℕ → List ℕ → List ℕ
 set_joined labels set = fold (joined_to (get_or set 0 0)) labels set
 
-abbrev pub joined_if : (is_used : Bool) → List (Option ℕ) → (set : List ℕ) → List (Option ℕ)
+abbrev pub joined_if : (is_used : Bool) → List ℕ → (set : List ℕ) → List ℕ
 joined_if true labels set = set_joined labels set
 joined_if false labels set = labels
 
 -- the sets in use, of which the first has the number s
-unfoldable pub sets_joined : (used : List Bool) (s : ℕ) → List (Option ℕ) → List (List ℕ) → List (Option ℕ)
+unfoldable pub sets_joined : (used : List Bool) (s : ℕ) → List ℕ → List (List ℕ) → List ℕ
 sets_joined used s labels [] = labels
 sets_joined used s labels (set ∷ sets) = sets_joined used (s + 1) (joined_if (get_or used s false) labels set) sets
 
 -- ---- what the instructions say
 
-abbrev pub own_marked : List (Option ℕ) → Nature → List (Option ℕ)
+abbrev pub own_marked : List ℕ → Nature → List ℕ
 own_marked labels Nature.Safe = labels
 own_marked labels (Nature.Own g) = elim (ltb g 400) [ true ↦ touched labels g | false ↦ labels ]
 own_marked labels (Nature.Listed s) = labels
@@ -73,48 +66,36 @@ use_marked used (Nature.Jump p) = used
 use_marked used Nature.Check = used
 use_marked used Nature.Other = used
 
-abbrev pub owns_marked : (size : ℕ → ℕ) → List (Option ℕ) → List Instr → List (Option ℕ)
+abbrev pub owns_marked : (size : ℕ → ℕ) → List ℕ → List Instr → List ℕ
 owns_marked size labels code = fold (λ l i. own_marked l (nature_of size (view i))) labels code
 
 abbrev pub uses_marked : (size : ℕ → ℕ) → List Bool → List Instr → List Bool
 uses_marked size used code = fold (λ u i. use_marked u (nature_of size (view i))) used code
 
 -- the labels of a routine's objects
-unfoldable pub labels_of : Program → List (Option ℕ)
+unfoldable pub labels_of : Program → List ℕ
 labels_of p =
     sets_joined
     (uses_marked (size_of p.objects) (replicate 400 false) p.code)
     0
-    (owns_marked (size_of p.objects) (replicate 400 None) p.code)
+    (owns_marked (size_of p.objects) (replicate 400 400) p.code)
     p.sets
 
 -- ---- numbering the classes
 
--- whether x is the lowest object of its class
-abbrev pub leads : (label : Option ℕ) (x : ℕ) → Bool
-leads label x = option_eq nat_eq label (Some x)
+-- how many objects are their own label, the lowest of their class
+unfoldable pub classes_in : (labels : List ℕ) → ℕ
+classes_in labels = count_by (λ p. p.1 == p.0) (enumerate_from 0 labels)
 
--- the color of the lowest object of a class
-abbrev pub class_color : List Object → (label : Option ℕ) → ℕ
-class_color os None = 0
-class_color os (Some v) = (get_or os v blank).color
-
--- how many objects are the lowest of their class
-unfoldable pub classes_in : (labels : List (Option ℕ)) → ℕ
-classes_in labels = count_by (λ p. leads p.1 p.0) (enumerate_from 0 labels)
-
--- the color of a label: classes get 2, 3, .. in the order of their lowest objects
-abbrev pub label_color : List (Option ℕ) → (label : Option ℕ) → ℕ
-label_color labels None = 0
-label_color labels (Some v) = 2 + classes_in (take v labels)
-
-abbrev pub color_by : List (Option ℕ) → (x : ℕ) → ℕ
-color_by labels x = label_color labels (get_or labels x None)
+-- the color of x: classes get 2, 3, .. in the order of their lowest objects
+abbrev pub color_by : (labels : List ℕ) (x : ℕ) → ℕ
+color_by labels x =
+    elim (ltb (get_or labels x 0) 400) [ true ↦ 2 + classes_in (take (get_or labels x 0) labels) | false ↦ 0 ]
 
 -- each label is the lowest object that has it
-pub record Lowest (labels : List (Option ℕ)) : Type 0 where
-  pub low : (x v : ℕ) → get_or labels x None ≡ Some v → v ≤ x
-  pub self : (x v : ℕ) → get_or labels x None ≡ Some v → get_or labels v None ≡ Some v
+pub record Lowest (labels : List ℕ) : Type 0 where
+  pub low : (x : ℕ) → x < 400 → get_or labels x 0 < 400 → get_or labels x 0 ≤ x
+  pub self : (x : ℕ) → x < 400 → get_or labels x 0 < 400 → get_or labels (get_or labels x 0) 0 ≡ get_or labels x 0
 
 -- ---- the arrays
 
@@ -146,7 +127,7 @@ program_in l =
       code = take l.code.count l.code.list;
     }
 
--- a routine that was read, and so its arrays are in range
+-- a routine that was read, whose arrays are so in range
 pub record IsRead (l : Loaded) : Type 0 where
   pub file : List ℕ
   pub reading : ◌≡◌ {A = Result Loaded Refusal} (Ok l) (held (read_file 1 file))

@@ -1,5 +1,5 @@
 // The classes of a routine, by labels: the label of an unsafe object is the lowest object of its class
-// so far, and `None` where the object is in no unsafe instruction's set.
+// so far, and NONE where the object is in no unsafe instruction's set.
 //
 // Each set that an unsafe instruction names is gone through once, and the labels are gone through only
 // where two classes become one, which happens fewer times than there are objects. So the cost is at
@@ -14,47 +14,46 @@ use files::Sets;
 use opcodes::{Instr, Object};
 use safety::{Nature, nature_of};
 
-// Each object's label.
-pub(super) type Labels = [Option<u16>; 400];
+// No object has this number. An Option for a label was tried, and proved: the labels are then not gone through
+// several at a time, and a largest file takes 1.46 of Rust's time in place of 0.83.
+pub const NONE: u16 = 400;
 
 // An object of an unsafe instruction's set has a class.
-fn touch(labels: &mut Labels, x: u16)
+fn touch(labels: &mut [u16; 400], x: u16)
     requires { x < 400 }
     ensures { labels.new ≡ touched labels.old x }
 {
     let at = x as usize;
-    if labels[at].is_none() {
-        labels[at] = Some(x);
+    if labels[at] >= NONE {
+        labels[at] = x;
     }
 }
 
 #[tactic(auto, using(crate::proofs::Turns::relabel_turn))]
-fn relabel(labels: &mut Labels, from: u16, to: u16)
+fn relabel(labels: &mut [u16; 400], from: u16, to: u16)
     ensures { labels.new ≡ map (renamed from to) labels.old }
 {
     for label in labels.iter_mut() {
-        if *label == Some(from) {
-            *label = Some(to);
+        if *label == from {
+            *label = to;
         }
     }
 }
 
 // The classes of two objects become one, with the lower label.
-#[tactic(auto, using(crate::proofs::Turns::united_same))]
-fn unite(labels: &mut Labels, a: u16, b: u16)
+fn unite(labels: &mut [u16; 400], a: u16, b: u16)
     requires { (a < 400) × (b < 400) }
     ensures { labels.new ≡ united labels.old a b }
 {
-    let (Some(one), Some(other)) = (labels[a as usize], labels[b as usize]) else {
-        return;
-    };
+    let one = labels[a as usize];
+    let other = labels[b as usize];
     if one != other {
         relabel(labels, one.max(other), one.min(other));
     }
 }
 
 // The members of a set are of one class.
-fn unite_set(labels: &mut Labels, set: &[u16])
+fn unite_set(labels: &mut [u16; 400], set: &[u16])
     requires { (i : ℕ) → get_or set.now i 0 < 400 }
     ensures { labels.new ≡ set_joined labels.old set.now }
 {
@@ -69,7 +68,7 @@ fn unite_set(labels: &mut Labels, set: &[u16])
 
 // The sets that an unsafe instruction names.
 #[tactic(auto, using(crate::proofs::Turns::sets_end))]
-pub(super) fn unite_sets(labels: &mut Labels, used: &[bool; 400], sets: &Sets)
+pub(super) fn unite_sets(labels: &mut [u16; 400], used: &[bool; 400], sets: &Sets)
     requires { InRange sets.now }
     ensures { labels.new ≡ sets_joined used.now 0 labels.old (listed sets.now) }
 {
@@ -86,7 +85,7 @@ pub(super) fn unite_sets(labels: &mut Labels, used: &[bool; 400], sets: &Sets)
 
 // What one instruction says: its own object has a class, or its set is used. A routine that was read
 // names no object and no set from 400 on.
-fn mark(i: Instr, objects: &[Object], labels: &mut Labels, used: &mut [bool; 400])
+fn mark(i: Instr, objects: &[Object], labels: &mut [u16; 400], used: &mut [bool; 400])
     ensures labels_after { labels.new ≡ own_marked labels.old (nature_of (size_of objects.now) (view i)) }
     ensures used_after { used.new ≡ use_marked used.old (nature_of (size_of objects.now) (view i)) }
 {
@@ -101,7 +100,7 @@ fn mark(i: Instr, objects: &[Object], labels: &mut Labels, used: &mut [bool; 400
 pub(super) fn mark_all(
     code: &[Instr],
     objects: &[Object],
-    labels: &mut Labels,
+    labels: &mut [u16; 400],
     used: &mut [bool; 400],
 )
     ensures labels_after { labels.new ≡ owns_marked (size_of objects.now) labels.old code.now }

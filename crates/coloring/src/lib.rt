@@ -11,7 +11,7 @@ ghost use Rattle.coloring.specs.Colored.{colored};
 ghost use Rattle.coloring.specs.Labels.{IsRead, program_in, labels_of};
 
 use files::{Loaded, read_routine};
-use labels::{Labels, mark_all, unite_sets};
+use labels::{NONE, mark_all, unite_sets};
 use numbers::refusal::{Cause, Refusal};
 use painting::{count_classes, give_colors};
 
@@ -20,13 +20,13 @@ mod painting; // painting.rt: their colors
 
 // The labels of a routine's objects.
 #[tactic(auto, unfolding(crate::specs::Labels::labels_of))]
-fn labels_of(routine: &Loaded) -> Labels
+fn labels_of(routine: &Loaded) -> [u16; 400]
     requires { IsRead routine.now }
     ensures { result ≡ labels_of (program_in routine.now) }
 {
     let code = &routine.code.list[..routine.code.count];
     let objects = &routine.objects.list[..routine.objects.count];
-    let mut labels = [None; 400];
+    let mut labels = [NONE; 400];
     let mut used = [false; 400];
     mark_all(code, objects, &mut labels, &mut used);
     unite_sets(&mut labels, &used, &routine.sets);
