@@ -39,9 +39,12 @@ fn joined_row(held: u32, row: &[u8; 8]) -> u32 {
 pub(crate) fn digest_bytes(bytes: &[u8]) -> u32 {
     let (rows, rest) = bytes.as_chunks::<8>();
     let held = rows.iter().fold(EMPTY, joined_row);
-    rest.iter().fold(held, |held, &byte| joined(held, u32::from(byte)))
+    rest.iter()
+        .fold(held, |held, &byte| joined(held, u32::from(byte)))
 }
 
 pub(crate) fn digest_numbers(numbers: &[u32]) -> u32 {
-    numbers.iter().fold(EMPTY, |held, &number| joined(held, number))
+    numbers
+        .iter()
+        .fold(EMPTY, |held, &number| joined(held, number))
 }

@@ -1,7 +1,7 @@
 // What the layers below the machine answer, each as eight words.
 use crate::case::Case;
 use crate::digest::digest_bytes;
-use crate::lent::{within, filled_room, word};
+use crate::lent::{filled_room, within, word};
 use crate::listing::digest_of;
 use coloring::read_colored;
 use files::{Loaded, WriteError};
@@ -10,7 +10,16 @@ use numbers::refusal::Refusal;
 
 // A refusal with the digest of a room, 0 where none was lent.
 fn refused(q: Refusal, room: u32) -> [u32; 8] {
-    [u32::from(q.cause.number()), word(q.place), 0, 0, 0, room, 0, 0]
+    [
+        u32::from(q.cause.number()),
+        word(q.place),
+        0,
+        0,
+        0,
+        room,
+        0,
+        0,
+    ]
 }
 
 // The room was too small.

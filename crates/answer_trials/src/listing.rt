@@ -64,10 +64,10 @@ fn instruction(held: u32, version: u32, parts: Parts) -> u32 {
 
 fn instructions(held: u32, version: u32, code: &Code) -> u32 {
     let counted = joined(held, word(code.count));
-    code.list
-        .iter()
-        .take(code.count)
-        .fold(counted, |h, &instr| instruction(h, version, parts_of(instr)))
+    code.list.iter().take(code.count).fold(
+        counted,
+        |h, &instr| instruction(h, version, parts_of(instr)),
+    )
 }
 
 // The file of a version: objects, in version 1 sets, instructions.

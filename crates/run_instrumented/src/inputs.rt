@@ -42,10 +42,7 @@ fn number_given(rt: &impl Env, i: usize) -> Result<u32, ArgumentError> {
 
 // Puts the arguments behind the program's name into the room and answers how many there are; where one is no
 // number or there are too many, `None`, and standard error says so.
-pub(crate) fn read_inputs(
-    rt: &(impl Env + Eprint),
-    room: &mut [u32],
-) -> io::Result<Option<usize>> {
+pub(crate) fn read_inputs(rt: &(impl Env + Eprint), room: &mut [u32]) -> io::Result<Option<usize>> {
     let most = room.len();
     for i in 0..most {
         match number_given(rt, i + 1) {

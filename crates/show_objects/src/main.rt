@@ -8,8 +8,7 @@ use coloring::read_colored;
 use files::{Loaded, Objects};
 use layout::lay_out;
 use numbers::refusal::{Cause, Refusal};
-use std::fmt;
-use std::io;
+use std::{fmt, io};
 
 // One byte more than the longest file, so that a longer one is seen to be too long.
 const LONGEST: usize = 32769;
