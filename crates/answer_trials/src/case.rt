@@ -5,6 +5,7 @@ use std::io::Read;
 
 #[derive(Clone, Copy)]
 pub struct Case {
+    // A byte of rust/PROTOCOL.md, which may be any.
     pub kind: u8,
     // What every lent byte holds before the call.
     pub fill: u8,

@@ -1,5 +1,8 @@
 // The fields of a file: each number is judged as soon as it is read, and a read answers the value with the
 // next cursor or a refusal, which is handed up at once.
+//
+// Five functions read a number and hold it to a test. One that takes the test as a closure would have to say what the
+// closure answers, and each of the five would need a proof by hand, where now none has one.
 ghost use Rattle.std.specs.Prelude.{◌≡◌};
 ghost use Rattle.opcodes.specs.Ranges.{has_opcode, within, kinds_of, scope_over};
 ghost use Rattle.files.specs.Reading.{judged};

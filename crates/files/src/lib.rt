@@ -28,7 +28,8 @@ pub enum WriteError {
     NoProgram,
 }
 
-// Reads bytes as a file of version 1.
+// Reads bytes as a file of version 1. This and the next are two names for one function: a const parameter in their place
+// would say less at each call.
 pub fn read_routine(file: &[u8]) -> Result<Loaded, Refusal>
     ensures { result ≡ held (read_file 1 file.now) }
 {

@@ -15,7 +15,8 @@ use opcodes::{Instr, Object, Scope};
 use reader::Reader;
 use table::row_of;
 
-// One instruction at a reader's place: its opcode, and the operands that its row names.
+// One instruction at a reader's place: its opcode, and the operands that its row names. Four lines and no loop: a row
+// has four fields, and reading is measured.
 fn read_instr<'a>(
     r: Reader<'a>,
     objects: &[Object],

@@ -31,7 +31,7 @@ fn start_of(start: usize, spare: usize, address: usize, header: usize, mark: u32
 }
 
 // All headers up to the end slot are walked; an unsound one stops it. The answer is where the block that
-// is live at the address starts when it is joined with a free one before it, 0 where there is none.
+// is live at the address starts when it is joined with a free one before it, 0 where there is none (D-52).
 fn find_live(memory: &[u8], address: usize) -> Result<usize, HeapError>
     requires { length memory.now ≡ memory_size }
     ensures { result ≡ live_in 0 0 address (walk memory.now) }

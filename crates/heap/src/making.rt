@@ -23,7 +23,7 @@ fn first_of(found: usize, want: usize, header: usize, size: usize, mark: u32) ->
 }
 
 // All headers up to the end slot are walked; an unsound one stops it. The answer is the header of the first
-// free block that holds the size, 0 where there is none.
+// free block that holds the size, 0 where there is none: an Option there costs the run loop a register (D-52).
 fn first_fit(memory: &[u8], want: usize) -> Result<usize, HeapError>
     requires { length memory.now ≡ memory_size }
     ensures { result ≡ fit_in 0 want (walk memory.now) }

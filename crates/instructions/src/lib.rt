@@ -10,7 +10,7 @@ ghost use Rattle.opcodes.specs.Table.{parts_of};
 
 use opcodes::{Instr, Parts};
 
-// The low eight bits.
+// The low eight bits. No cast cuts off, and no trait says that it does, so each width has its function.
 fn low_byte(n: u32) -> u8
     ensures { result ≡ n % 256 }
 {

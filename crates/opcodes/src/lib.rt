@@ -8,7 +8,8 @@ pub mod versions; // versions.rt: which opcodes and operands a version has
 pub mod ranges; // ranges.rt: the numbers that an operand may be
 pub mod extent; // extent.rt: a size rounded up to eight
 
-// What an operand of an instruction names, and so its range; `None` where there is no operand.
+// What an operand of an instruction names, and so its range; `None` where there is no operand. An Option in its place
+// would take from `is_present` and `is_allowed` a case that they answer for.
 #[derive(Clone, Copy)]
 pub enum Operand {
     None,
@@ -77,7 +78,7 @@ pub struct Parts {
 }
 
 // An object of a file: kind 0 is a global with a size, kind 1 a heap site, whose size is 0 here. A file of version 1
-// has no colors: the field is 0.
+// has no colors: the field is 0. The kind is a number and no enum, since `write_program` and `lay_out` answer for any.
 #[derive(Clone, Copy)]
 pub struct Object {
     pub kind: u8,
@@ -85,7 +86,8 @@ pub struct Object {
     pub color: u8,
 }
 
-// What the operands of an instruction may name, beside the objects.
+// What the operands of an instruction may name, beside the objects. The version is a number and no enum, since
+// `has_group`, `is_present` and `has_opcode` answer for any.
 #[derive(Clone, Copy)]
 pub struct Scope {
     pub version: u8,

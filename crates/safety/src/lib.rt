@@ -41,7 +41,7 @@ fn put(g: u32, k: u32, bytes: u32, size: u16) -> Nature
 }
 
 // What the instruction with this opcode number and these operands is; `size` is the size of the
-// global that a PUT names.
+// global that a PUT names. It goes by numbers, with ranges, which is a form that the scope document names.
 pub fn by_opcode(opcode: u32, x: u32, y: u32, z: u32, w: u32, size: u16) -> Nature
     ensures { result ≡ nature_of (λ g. size) (view (make opcode (x ∷ y ∷ z ∷ w ∷ []))) }
 {

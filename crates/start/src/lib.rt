@@ -10,7 +10,7 @@ use opcodes::Object;
 use opcodes::extent::extent_of;
 
 // What laying out answers: whether the globals end at or below 28,672, and where each object starts; 0 for
-// those that are not there.
+// those that are not there. No Option: the starts are promised also where they do not fit.
 #[derive(Clone, Copy)]
 pub struct Laid {
     pub fits: bool,
