@@ -46,14 +46,17 @@ fn read_code(
     ensures { result ≡ hold code_held (several scope.lines (read_instr (scope_over scope (kinds_of objects.now)) file.now) from.at []) }
 {
     let count = scope.lines;
-    let mut list = [Instr::End; 2000];
+    let mut code = Code {
+        count,
+        list: [Instr::End; 2000],
+    };
     let mut next = from;
     for i in 0..count {
         let (instr, behind) = read_instr(Reader::open(file).after(next), objects, scope)?;
-        list[i] = instr;
+        code.list[i] = instr;
         next = behind;
     }
-    Ok((Code { count, list }, next))
+    Ok((code, next))
 }
 
 // The most instructions of a version.

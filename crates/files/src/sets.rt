@@ -59,21 +59,19 @@ fn read_sets(
     requires { (length file.now ≤ 16384) × (objects ≤ 400) × (count ≤ 400) }
     ensures { result ≡ hold sets_held (several count (read_set objects file.now) from.at []) }
 {
-    let mut ends = [0; 400];
-    let mut members = [0; 16384];
+    let mut sets = Sets {
+        count,
+        ends: [0; 400],
+        members: [0; 16384],
+    };
     let mut place = 0;
     let mut next = from;
     for i in 0..count {
-        let (end, behind) = read_set(file, next, objects, &mut members, place)?;
-        ends[i] = end as u16;
+        let (end, behind) = read_set(file, next, objects, &mut sets.members, place)?;
+        sets.ends[i] = end as u16;
         place = end;
         next = behind;
     }
-    let sets = Sets {
-        count,
-        ends,
-        members,
-    };
     Ok((sets, next))
 }
 
