@@ -1,6 +1,8 @@
 // A case: its header, and reading it. All words are four bytes, low byte first.
+ghost use Rattle.std.specs.Prelude.{◌≡◌, ◌≤◌, IfOk, length};
+
 use crate::lent::within;
-use input::read_full;
+use std::io;
 use std::io::Read;
 
 #[derive(Clone, Copy)]
@@ -43,6 +45,23 @@ pub(crate) fn case_in(header: &[u8]) -> Case {
         memory: word_at(header, 6),
         table: word_at(header, 7),
     }
+}
+
+// Reads until the buffer is full or the input ends, and returns how many bytes that were. The buffer keeps its
+// length. Each program has this function for itself (docs/DECISIONS.md, D-64).
+fn read_full(input: &mut impl Read, buffer: &mut [u8]) -> io::Result<usize>
+    ensures count { IfOk result (λ n. n ≤ length buffer.new) }
+    ensures length { length buffer.new ≡ length buffer.old }
+{
+    let mut done = 0;
+    while done < buffer.len() {
+        let n = input.read(&mut buffer[done..])?;
+        if n == 0 {
+            break;
+        }
+        done += n;
+    }
+    Ok(done)
 }
 
 // Fills the front of a buffer with so many bytes of the input, or says that the input ended before.

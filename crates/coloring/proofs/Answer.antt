@@ -55,7 +55,10 @@ module _ (file : List ℕ) (l : Loaded) (e : ◌≡◌ {A = Result Loaded Refusa
         code = omega (arith, (lines_bounds s.p s.good).1);
       })
 
-  pub read_colored : held (colored (read_file 1 file)) ≡ held (colored (whole (program_in l)))
+  pub few_objects : l.objects.count ≤ 400
+  few_objects = is_read.objects
+
+  read_colored : held (colored (read_file 1 file)) ≡ held (colored (whole (program_in l)))
   read_colored = ap (λ (r : Reading). held (colored r)) sound.1
 
 pub read_refused : (file : List ℕ) (q : Refusal) → ◌≡◌ {A = Result Loaded Refusal} (Err q) (held (read_file 1 file)) → ◌≡◌ {A = Result Loaded Refusal} (Err q) (held (colored (read_file 1 file)))
@@ -94,16 +97,16 @@ module _ (p : Program) (good : Good 1 p) where
       ap (λ (o : Objects). Ok (record (held_as p) { objects = o })) objects_painted
       ∙ sym (ap pick (le-leb (class_count p) 254 (omega (arith, counted p good))))
 
-module _ (l : Loaded) (read : IsRead l) where
+module _ (file : List ℕ) (l : Loaded) (e : ◌≡◌ {A = Result Loaded Refusal} (Ok l) (held (read_file 1 file))) where
   s : Sound l
-  s = (sound read.file l read.reading).0
+  s = (sound file l e).0
 
   pub labels_lowest : Lowest (labels_of (program_in l))
   labels_lowest = rw s.said (lowest_labels s.p s.good)
 
   pub many_classes : 254 < classes_in (take l.objects.count (labels_of (program_in l)))
-      → ◌≡◌ {A = Result Loaded Refusal} (Err (refusal Cause.ManyClasses 0)) (held (colored (whole (program_in l))))
-  many_classes = go s.p s.good s.held_so
+      → ◌≡◌ {A = Result Loaded Refusal} (Err (refusal Cause.ManyClasses 0)) (held (colored (read_file 1 file)))
+  many_classes many = go s.p s.good s.held_so many ∙ sym (read_colored file l e)
     where
       go : (p : Program) → Good 1 p → l ≡ held_as p → 254 < classes_in (take l.objects.count (labels_of (program_in l)))
           → ◌≡◌ {A = Result Loaded Refusal} (Err (refusal Cause.ManyClasses 0)) (held (colored (whole (program_in l))))
@@ -112,8 +115,8 @@ module _ (l : Loaded) (read : IsRead l) where
   pub few_classes : classes_in (take l.objects.count (labels_of (program_in l))) ≤ 254
       → ◌≡◌ {A = Result Loaded Refusal}
       (Ok (record l { objects = painted (color_by (labels_of (program_in l))) l.objects }))
-      (held (colored (whole (program_in l))))
-  few_classes = go s.p s.good s.held_so
+      (held (colored (read_file 1 file)))
+  few_classes few = go s.p s.good s.held_so few ∙ sym (read_colored file l e)
     where
       go : (p : Program) → Good 1 p → l ≡ held_as p → classes_in (take l.objects.count (labels_of (program_in l))) ≤ 254
           → ◌≡◌ {A = Result Loaded Refusal} (Ok (record l { objects = painted (color_by (labels_of (program_in l))) l.objects })) (held (colored (whole (program_in l))))

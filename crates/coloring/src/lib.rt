@@ -5,7 +5,7 @@
 #![tactic(auto)]
 
 ghost use Rattle.std.specs.Prelude.{◌≡◌};
-ghost use Rattle.files.specs.Reading.{Reading, read_file};
+ghost use Rattle.files.specs.Reading.{read_file};
 ghost use Rattle.files.specs.Held.{held};
 ghost use Rattle.coloring.specs.Colored.{colored};
 ghost use Rattle.coloring.specs.Labels.{IsRead, program_in, labels_of};
@@ -33,28 +33,23 @@ fn labels_of(routine: &Loaded) -> [u16; 400]
     labels
 }
 
-// A routine with the colors of its objects. There are colors for 254 classes.
-#[tactic(auto, using(crate::proofs::Answer::labels_lowest, crate::proofs::Answer::many_classes, crate::proofs::Answer::few_classes))]
-fn paint(mut routine: Loaded) -> Result<Loaded, Refusal>
-    requires { IsRead routine }
-    ensures { result ≡ held (colored (Reading.whole (program_in routine))) }
-{
-    let labels = labels_of(&routine);
-    if 254 < count_classes(&labels[..routine.objects.count]) {
-        return Err(Refusal {
-            cause: Cause::ManyClasses,
-            place: 0,
-        });
-    }
-    give_colors(&mut routine.objects, &labels);
-    Ok(routine)
-}
-
-// Reads bytes as a routine and gives its objects their colors. The answer has 0 as the color of a safe
-// object, and 2, 3, .. for the classes in the order of their lowest objects.
-#[tactic(auto, using(crate::proofs::Answer::is_read, crate::proofs::Answer::read_colored, crate::proofs::Answer::read_refused))]
+// Reads bytes as a routine and gives its objects their colors, in the answer where they are held (docs/DECISIONS.md,
+// D-61). The answer has 0 as the color of a safe object, and 2, 3, .. for the classes in the order of their lowest
+// objects; there are colors for 254 classes.
+#[tactic(auto, using(crate::proofs::Answer::is_read, crate::proofs::Answer::few_objects, crate::proofs::Answer::labels_lowest, crate::proofs::Answer::many_classes, crate::proofs::Answer::few_classes, crate::proofs::Answer::read_refused))]
 pub fn read_colored(file: &[u8]) -> Result<Loaded, Refusal>
     ensures { result ≡ held (colored (read_file 1 file.now)) }
 {
-    paint(read_routine(file)?)
+    let mut read = read_routine(file);
+    if let Ok(routine) = &mut read {
+        let labels = labels_of(routine);
+        if 254 < count_classes(&labels[..routine.objects.count]) {
+            return Err(Refusal {
+                cause: Cause::ManyClasses,
+                place: 0,
+            });
+        }
+        give_colors(&mut routine.objects, &labels);
+    }
+    read
 }

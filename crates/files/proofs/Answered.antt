@@ -1,9 +1,10 @@
 -- Answers that are equal, part by part, and what the answer of a part says of the reading that it stands for.
 use mathlib.Core.Path.{◌≡◌, sym, ap, ◌∙◌}
-use Rattle.std.specs.Prelude.{Ok, Err}
+use Rattle.std.specs.Prelude.{Result, Ok, Err}
 use Rattle.numbers.specs.declared.Cursor.{Cursor}
 use Rattle.numbers.specs.declared.refusal.Refusal.{Refusal}
 use Rattle.files.specs.Parsing.{Answer, hold}
+use Rattle.files.specs.Inside.{Holds}
 
 module _ {A : Type 0} {a b : A} {c d : Cursor} (e : ◌≡◌ {A = Answer A} (Ok (a, c)) (Ok (b, d))) where
   both : ◌≡◌ {A = A × Cursor} (a, c) (b, d)
@@ -39,5 +40,27 @@ module _ {A B : Type 0} (how : A → B) where
       absurd none
   was_refused (Err p) {r} {q} e f =
       let same : ◌≡◌ {A = Answer B} (Err q) (Err p) = sym f ∙ e in
+      let reason : q ≡ p = cc in
+      ap (λ (x : Refusal). Err x) (sym reason)
+
+-- the same of a part that stands in what was lent
+module _ {A B : Type 0} (how : A → B) where
+  pub was_held : (answer : Answer A) {next : Cursor} {r : Result Cursor Refusal} {lent : B} → Holds how answer r lent → r ≡ Ok next → Read how answer lent next
+  was_held (Ok a) {next} {r} {lent} h f =
+      let same : ◌≡◌ {A = Result Cursor Refusal} (Ok next) (Ok a.1) = sym f ∙ h.0 in
+      let there : a.1 ≡ next = cc in
+      record { thing = a.0; read = ap (λ (c : Cursor). Ok (a.0, c)) there; held_as = h.1 }
+  was_held (Err q) {next} {r} {lent} h f =
+      let clash : ◌≡◌ {A = Result Cursor Refusal} (Ok next) (Err q) = sym f ∙ h in
+      let none : ⊥ = cc in
+      absurd none
+
+  pub was_not_held : (answer : Answer A) (lent : B) {q : Refusal} {r : Result Cursor Refusal} → Holds how answer r lent → r ≡ Err q → answer ≡ Err q
+  was_not_held (Ok a) lent {q} {r} h f =
+      let clash : ◌≡◌ {A = Result Cursor Refusal} (Err q) (Ok a.1) = sym f ∙ h.0 in
+      let none : ⊥ = cc in
+      absurd none
+  was_not_held (Err p) lent {q} {r} h f =
+      let same : ◌≡◌ {A = Result Cursor Refusal} (Err q) (Err p) = sym f ∙ h in
       let reason : q ≡ p = cc in
       ap (λ (x : Refusal). Err x) (sym reason)

@@ -6,7 +6,10 @@ use native.Mathlib.Nat.{sub-zero, add-zero}
 use native.Mathlib.Omega.{arith}
 use lib.ListN.{length, take, set, replicate, get_or, length-append, length-replicate, length-map, get_or-map}
 use lib.Seq.{sets, set-append_seam, take-append_seam}
-use Rattle.files.specs.Held.{filled}
+use Rattle.opcodes.specs.declared.Instr.{Instr}
+use Rattle.files.specs.declared.arrays.Sets.{Sets}
+use Rattle.files.specs.declared.arrays.Code.{Code}
+use Rattle.files.specs.Held.{filled, ends_from, joined, sets_held, code_held}
 
 module _ {A : Type 0} (n : ℕ) (blank : A) where
   -- nothing is filled in yet
@@ -67,3 +70,11 @@ sets_append l i [] ys = rw add-zero
 sets_append l i (x ∷ xs) ys =
     let e : suc i + length xs ≡ i + suc (length xs) = omega arith in
     sets_append (set l i x) (suc i) xs ys ∙ ap (λ (k : ℕ). sets (sets (set l i x) (suc i) xs) k ys) e
+
+-- what nothing is read into yet
+pub blank_sets : ◌≡◌ {A = Sets} (record { count = 0; ends = replicate 400 0; members = replicate 16384 0 }) (sets_held [])
+unfolding ends_from joined
+blank_sets = λ i. record { count = 0; ends = filled_none 400 0 i; members = filled_none 16384 0 i }
+
+pub blank_code : ◌≡◌ {A = Code} (record { count = 0; list = replicate 2000 Instr.End }) (code_held [])
+blank_code = λ i. record { count = 0; list = filled_none 2000 Instr.End i }

@@ -1,16 +1,17 @@
 -- A loop over things that are read one after the other: what is left to read from here answers what the whole
 -- reading does, and the array holds what is done.
-use mathlib.Core.Path.{◌≡◌, refl, sym, ap, ◌∙◌}
+use mathlib.Core.Path.{◌≡◌, refl, sym, ap, subst, ◌∙◌}
 use mathlib.Core.List.{List, [], ◌∷◌, ◌++◌}
 use Prim.Native.Nat.{ℕ, suc, ◌+◌, ◌-◌, ◌<◌, ◌≤◌}
 use native.Mathlib.Nat.{sub-zero}
 use native.Mathlib.Omega.{arith}
 use lib.ListN.{length, set, length-append}
-use Rattle.std.specs.Prelude.{Ok, Err}
+use Rattle.std.specs.Prelude.{Result, Ok, Err}
 use Rattle.numbers.specs.declared.Cursor.{Cursor}
 use Rattle.numbers.specs.declared.refusal.Refusal.{Refusal}
 use Rattle.files.specs.Held.{filled}
 use Rattle.files.specs.Parsing.{Answer, then, several, hold, cursor}
+use Rattle.files.specs.Inside.{Holds}
 use Rattle.files.proofs.Filled.{filled_more}
 
 -- one turn
@@ -91,3 +92,12 @@ module _ {A B : Type 0} (how : List A → B) {one : ℕ → Answer A} {count fro
 
   pub refused : {r : Answer A} {q : Refusal} → i < count → r ≡ one next → r ≡ Err q → hold how (several count one from []) ≡ Err q
   refused h e f = ap (hold how) (stops p h (sym e ∙ f))
+
+  -- the same where it is held in what was lent
+  module _ (answer : Result Cursor Refusal) (lent : B) where
+    pub all_held : count ≤ i → answer ≡ Ok (cursor next) → lent ≡ how done → Holds how (several count one from []) answer lent
+    all_held h e f = subst (λ r. Holds how r answer lent) (sym (ends p h)) (e, f)
+
+    pub none_held : {r : Answer A} {q : Refusal} → i < count → r ≡ one next → r ≡ Err q → answer ≡ Err q
+        → Holds how (several count one from []) answer lent
+    none_held h e f g = subst (λ r. Holds how r answer lent) (sym (stops p h (sym e ∙ f))) g

@@ -9,7 +9,8 @@ use lib.Seq.{sets}
 use Rattle.std.specs.Prelude.{Ok, Err}
 use Rattle.numbers.specs.declared.refusal.Refusal.{Refusal}
 use Rattle.numbers.specs.declared.Cursor.{Cursor}
-use Rattle.files.specs.Held.{filled, ends_from, joined}
+use Rattle.files.specs.declared.arrays.Sets.{Sets}
+use Rattle.files.specs.Held.{filled, ends_from, joined, sets_held}
 use Rattle.files.proofs.Filled.{filled_more, filled_run, length-filled}
 use Rattle.files.specs.Inside.{SetIs}
 use Rattle.files.proofs.Answered.{same_thing, same_cursor}
@@ -84,6 +85,10 @@ unfolding ends_from joined
 start objects count file from e m =
     record
     { done = []; read = begin; held_ends = e; held_members = m; placed = refl; behind = omega arith; fits = omega arith }
+
+pub start_blank : (objects count : ℕ) (file : List ℕ) (from : ℕ) {s : Sets} → s ≡ sets_held [] → Gathering objects count file from s.ends s.members 0 from 0
+unfolding ends_from joined
+start_blank objects count file from e = start objects count file from (ap (λ (s : Sets). s.ends) e) (ap (λ (s : Sets). s.members) e)
 
 module _ {objects count : ℕ} {file : List ℕ} {from : ℕ} {ends members : List ℕ} {place next i : ℕ}
     (g : Gathering objects count file from ends members place next i) where

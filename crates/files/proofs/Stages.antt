@@ -1,12 +1,12 @@
 -- The whole file, part by part: each part that was read leads to the next, and the first refusal is the file's.
-use mathlib.Core.Path.{◌≡◌, refl, ap, ap₂, ◌∙◌}
+use mathlib.Core.Path.{◌≡◌, refl, ap, ap₂, subst, ◌∙◌}
 use mathlib.Core.List.{List, [], ◌∷◌, ◌++◌}
 use mathlib.Core.Bool.{Bool, true, false}
 use Prim.Native.Nat.{ℕ, zero, suc, ◌+◌, ◌≤◌, ◌<◌}
 use native.Mathlib.Omega.{arith}
 use lib.ListN.{length, take, length-append}
 use borrow.Author.Tests.{lt-leb, eq-eqb, ne_eqb}
-use Rattle.std.specs.Prelude.{Ok, Err}
+use Rattle.std.specs.Prelude.{Result, Ok, Err}
 use Rattle.numbers.specs.declared.refusal.Cause.{Cause}
 use Rattle.numbers.specs.declared.refusal.Refusal.{Refusal}
 use Rattle.numbers.specs.declared.Cursor.{Cursor}
@@ -23,7 +23,8 @@ use Rattle.files.specs.declared.arrays.Loaded.{Loaded}
 use Rattle.files.specs.Program.{longest}
 use Rattle.files.specs.Reading.{Reading, whole, judged, read_file}
 use Rattle.files.specs.Held.{held_as, objects_held, sets_held, code_held, blank}
-use Rattle.files.specs.Parsing.{Answer, then, several, hold, cursor, read_object, read_set, objects_of, sets_of, code_of, ends_there, behind}
+use Rattle.files.specs.Inside.{Holds}
+use Rattle.files.specs.Parsing.{Answer, then, several, cursor, read_object, read_set, objects_of, sets_of, code_of, ends_there, behind}
 use Rattle.files.proofs.Answered.{same_thing}
 use Rattle.files.proofs.Filled.{take-filled}
 use Rattle.files.proofs.Following.{read_by_parts}
@@ -137,14 +138,18 @@ module _ (os : List Object) {o : Objects} (e : o ≡ objects_held os) where
   held_list = ap (λ (o : Objects). take o.count o.list) e ∙ take-filled 400 blank os (length os) refl
 
   module _ (version : ℕ) (file : List ℕ) (at : ℕ) where
-    pub sets_behind : {r : Answer Sets} → r ≡ hold sets_held (sets_of version o.count file at) → r ≡ hold sets_held (sets_of version (length os) file at)
-    sets_behind f = f ∙ ap (λ (n : ℕ). hold sets_held (sets_of version n file at)) held_count
+    pub sets_behind : (r : Result Cursor Refusal) (s : Sets) → Holds sets_held (sets_of version o.count file at) r s
+        → Holds sets_held (sets_of version (length os) file at) r s
+    sets_behind r s f = subst (λ (n : ℕ). Holds sets_held (sets_of version n file at) r s) held_count f
 
-    pub code_behind : (ss : List (List ℕ)) {s : Sets} {r : Answer Code} → s ≡ sets_held ss
-        → r ≡ hold code_held (code_of version (kinds_of (take o.count o.list)) s.count file at)
-        → r ≡ hold code_held (code_of version (kinds_of os) (length ss) file at)
-    code_behind ss g f =
-        f ∙ ap₂ (λ (l : List Object) (s : Sets). hold code_held (code_of version (kinds_of l) s.count file at)) held_list g
+    pub code_behind : (ss : List (List ℕ)) {s : Sets} (r : Result Cursor Refusal) (k : Code) → s ≡ sets_held ss
+        → Holds code_held (code_of version (kinds_of (take o.count o.list)) s.count file at) r k
+        → Holds code_held (code_of version (kinds_of os) (length ss) file at) r k
+    code_behind ss {s} r k g f =
+        subst
+        (λ (a : Answer (List Instr)). Holds code_held a r k)
+        (ap₂ (λ (l : List Object) (s : Sets). code_of version (kinds_of l) s.count file at) held_list g)
+        f
 
 pub held_all : (os : List Object) (ss : List (List ℕ)) (is : List Instr) {o : Objects} {s : Sets} {k : Code}
     → o ≡ objects_held os → s ≡ sets_held ss → k ≡ code_held is

@@ -1,7 +1,9 @@
 -- What the functions inside the crate promise one another, where it is no sentence of 01.
-use Rattle.std.specs.Prelude.{ℕ, ◌+◌, ◌≤◌, ◌≡◌, List, Ok, Err, length}
+use Rattle.std.specs.Prelude.{ℕ, ◌+◌, ◌≤◌, ◌≡◌, List, Result, Ok, Err, length}
 use Rattle.std.proofs.lemmas.List.Edits.{sets}
 use Rattle.opcodes.specs.declared.Scope.{Scope}
+use Rattle.numbers.specs.declared.Cursor.{Cursor}
+use Rattle.numbers.specs.declared.refusal.Refusal.{Refusal}
 use Rattle.files.specs.Parsing.{Answer}
 
 -- a scope whose names fit the fields of an instruction
@@ -26,3 +28,9 @@ pub record SetHeld (set : List ℕ) (answered end : Answer ℕ) (before : List �
 abbrev pub SetIs : Answer (List ℕ) → (answer : Answer ℕ) → (before : List ℕ) → (from : ℕ) → (after : List ℕ) → Type 0
 SetIs (Ok r) answer before from after = SetHeld r.0 answer (Ok (from + length r.0, r.1)) before from after
 SetIs (Err q) answer before from after = answer ≡ Err q
+
+-- what was read stands in what was lent, and the answer is the cursor behind it; of what is refused the answer is all that is
+-- promised
+abbrev pub Holds : {A B : Type 0} → (how : A → B) → Answer A → (answer : Result Cursor Refusal) → (lent : B) → Type 0
+Holds how (Ok r) answer lent = (answer ≡ Ok r.1) × (lent ≡ how r.0)
+Holds how (Err q) answer lent = answer ≡ Err q

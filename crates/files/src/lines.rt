@@ -3,8 +3,8 @@ ghost use Rattle.std.specs.Prelude.{◌≡◌, [], ◌≤◌, length};
 ghost use Rattle.opcodes.specs.Ranges.{kinds_of, scope_over};
 ghost use Rattle.files.specs.Program.{most_code};
 ghost use Rattle.files.specs.Held.{code_held};
-ghost use Rattle.files.specs.Parsing.{hold, several, read_instr, code_of};
-ghost use Rattle.files.specs.Inside.{Small};
+ghost use Rattle.files.specs.Parsing.{several, read_instr, code_of};
+ghost use Rattle.files.specs.Inside.{Small, Holds};
 
 use super::Code;
 use super::fields::{opcode_at, operand_at, ranged};
@@ -35,28 +35,27 @@ fn read_instr<'a>(
     Ok((instr_of(op, x, y, z, w), next))
 }
 
-// As many instructions as the scope says.
+// As many instructions as the scope says, into code that is blank; answered is the cursor behind them.
 fn read_code(
     file: &[u8],
     from: Cursor,
     objects: &[Object],
     scope: Scope,
-) -> Result<(Code, Cursor), Refusal>
-    requires { Small scope (kinds_of objects.now) }
-    ensures { result ≡ hold code_held (several scope.lines (read_instr (scope_over scope (kinds_of objects.now)) file.now) from.at []) }
+    code: &mut Code,
+) -> Result<Cursor, Refusal>
+    requires few { Small scope (kinds_of objects.now) }
+    requires blank { code.old ≡ code_held [] }
+    ensures { Holds code_held (several scope.lines (read_instr (scope_over scope (kinds_of objects.now)) file.now) from.at []) result code.new }
 {
     let count = scope.lines;
-    let mut code = Code {
-        count,
-        list: [Instr::End; 2000],
-    };
+    code.count = count;
     let mut next = from;
     for i in 0..count {
         let (instr, behind) = read_instr(Reader::open(file).after(next), objects, scope)?;
         code.list[i] = instr;
         next = behind;
     }
-    Ok((code, next))
+    Ok(next)
 }
 
 // The most instructions of a version.
@@ -66,16 +65,18 @@ fn most_code(version: u8) -> u32
     if version == 1 { 1000 } else { 2000 }
 }
 
-// The count of instructions, and the instructions.
+// The count of instructions, and the instructions, into code that is blank.
 pub(crate) fn code_of(
     file: &[u8],
     from: Cursor,
     objects: &[Object],
     version: u8,
     sets: usize,
-) -> Result<(Code, Cursor), Refusal>
-    requires { (length objects.now ≤ 400) × (sets ≤ 400) }
-    ensures { result ≡ hold code_held (code_of version (kinds_of objects.now) sets file.now from.at) }
+    code: &mut Code,
+) -> Result<Cursor, Refusal>
+    requires few { (length objects.now ≤ 400) × (sets ≤ 400) }
+    requires blank { code.old ≡ code_held [] }
+    ensures { Holds code_held (code_of version (kinds_of objects.now) sets file.now from.at) result code.new }
 {
     let (count, next) = ranged(file, from, Cause::Count, 1, most_code(version))?;
     let scope = Scope {
@@ -83,5 +84,5 @@ pub(crate) fn code_of(
         sets,
         lines: count as usize,
     };
-    read_code(file, next, objects, scope)
+    read_code(file, next, objects, scope, code)
 }

@@ -2,8 +2,8 @@
 ghost use Rattle.std.specs.Prelude.{◌≡◌, [], ◌≤◌, ◌<◌, ◌^◌, length};
 ghost use Rattle.files.specs.Program.{longest};
 ghost use Rattle.files.specs.Held.{sets_held};
-ghost use Rattle.files.specs.Parsing.{hold, several, members_from, read_set, sets_of};
-ghost use Rattle.files.specs.Inside.{SetIs, Roomy};
+ghost use Rattle.files.specs.Parsing.{several, members_from, read_set, sets_of};
+ghost use Rattle.files.specs.Inside.{SetIs, Roomy, Holds};
 
 use super::Sets;
 use super::fields::{member_at, ranged};
@@ -49,21 +49,19 @@ fn read_set(
     read_members(file, next, objects, count as usize, members, start)
 }
 
-// `count` sets.
+// `count` sets, into what is blank; answered is the cursor behind them.
 fn read_sets(
     file: &[u8],
     from: Cursor,
     objects: usize,
     count: usize,
-) -> Result<(Sets, Cursor), Refusal>
-    requires { (length file.now ≤ 16384) × (objects ≤ 400) × (count ≤ 400) }
-    ensures { result ≡ hold sets_held (several count (read_set objects file.now) from.at []) }
+    sets: &mut Sets,
+) -> Result<Cursor, Refusal>
+    requires few { (length file.now ≤ 16384) × (objects ≤ 400) × (count ≤ 400) }
+    requires blank { sets.old ≡ sets_held [] }
+    ensures { Holds sets_held (several count (read_set objects file.now) from.at []) result sets.new }
 {
-    let mut sets = Sets {
-        count,
-        ends: [0; 400],
-        members: [0; 16384],
-    };
+    sets.count = count;
     let mut place = 0;
     let mut next = from;
     for i in 0..count {
@@ -72,27 +70,24 @@ fn read_sets(
         place = end;
         next = behind;
     }
-    Ok((sets, next))
+    Ok(next)
 }
 
-// The count of sets, and the sets; a file of version 2 has neither.
+// The count of sets, and the sets, into what is blank; a file of version 2 has neither.
 pub(crate) fn sets_of(
     file: &[u8],
     from: Cursor,
     version: u8,
     objects: usize,
-) -> Result<(Sets, Cursor), Refusal>
-    requires { (length file.now ≤ longest version) × (objects ≤ 400) }
-    ensures { result ≡ hold sets_held (sets_of version objects file.now from.at) }
+    sets: &mut Sets,
+) -> Result<Cursor, Refusal>
+    requires few { (length file.now ≤ longest version) × (objects ≤ 400) }
+    requires blank { sets.old ≡ sets_held [] }
+    ensures { Holds sets_held (sets_of version objects file.now from.at) result sets.new }
 {
     if version != 1 {
-        let none = Sets {
-            count: 0,
-            ends: [0; 400],
-            members: [0; 16384],
-        };
-        return Ok((none, from));
+        return Ok(from);
     }
     let (count, next) = ranged(file, from, Cause::Count, 0, 400)?;
-    read_sets(file, next, objects, count as usize)
+    read_sets(file, next, objects, count as usize, sets)
 }

@@ -20,7 +20,12 @@ pub fn instrument(file: &[u8], room: &mut [u8]) -> Result<usize, Refusal>
     ensures answer { result ≡ told (instrument file.now (length room.old)) }
     ensures room { room.new ≡ room_holding room.old (instrument file.now (length room.old)) }
 {
-    let mut routine = read_colored(file)?;
+    // What was read is changed where it is held (docs/DECISIONS.md, D-61).
+    let mut read = read_colored(file);
+    let routine = match &mut read {
+        Ok(routine) => routine,
+        Err(why) => return Err(*why),
+    };
     let laid = lay_out(&routine.objects);
     if 28672 < laid.end {
         return Err(Refusal {
@@ -28,9 +33,9 @@ pub fn instrument(file: &[u8], room: &mut [u8]) -> Result<usize, Refusal>
             place: 0,
         });
     }
-    routine.code = version_2(&routine);
+    routine.code = version_2(routine);
     // Version 2 is always a program: only the room can be too small.
-    write_program(&routine, room).or(Err(Refusal {
+    write_program(routine, room).or(Err(Refusal {
         cause: Cause::SmallRoom,
         place: 0,
     }))

@@ -5,7 +5,7 @@
 -- count of numbers out, over the same room, leads to the next state of the definition, since the first of the room
 -- and the rest of it are the room again. For ALLOC and FREE the heap's answer decides, case by case. OUT alone changes
 -- the room.
-use Rattle.std.proofs.Common.{◌≡◌, ℕ, ◌+◌, ◌<◌, Bool, true, false, Result, Ok, Err, eqb, ltb, List, [], ◌∷◌, ◌++◌, length, take, drop, set, sym, refl, ap, ◌∙◌, ap₂, add-one, arith, length-append, take-append-drop, length-take-le, take-suc-set, drop-set-lt, ltb-false, ltb-true}
+use Rattle.std.proofs.Common.{◌≡◌, ℕ, ◌+◌, ◌<◌, Bool, true, false, Result, Ok, Err, eqb, ltb, List, [], ◌∷◌, ◌++◌, length, take, drop, set, sym, refl, ap, ◌∙◌, add-one, arith, length-append, take-append-drop, length-take-le, take-suc-set, drop-set-lt, ltb-false, ltb-true}
 use Rattle.std.specs.Bool.{⊤}
 use lib.Seq.{set_out}
 use Rattle.opcodes.specs.declared.Instr.{Instr}
@@ -20,7 +20,7 @@ use Rattle.machine.specs.declared.progress.Progress.{Progress}
 use Rattle.machine.specs.State.{Rule, Given, State, temp}
 use Rattle.machine.specs.Step.{Effect, stops, completes, next, conclude, allocating, freeing}
 use Rattle.machine.specs.Colors.{color_of_object}
-use Rattle.machine.specs.Turn.{held_rule, Held, held, state_of, Turned, turned, landed, turn_of, Ready, onward, output_turn, alloc_turn, alloc_temps, release_turn, free_at}
+use Rattle.machine.specs.Turn.{held_rule, Held, held, state_of, turned, landed, turn_of, Ready, onward, output_turn, alloc_turn, alloc_temps, release_turn, free_at}
 
 module _ (starts : List ℕ) (objects : List Object) (input : List ℕ) (h : Held) (p : Progress) (ready : Ready h p) where
   abbrev rule : Rule (List ℕ)

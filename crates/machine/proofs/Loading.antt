@@ -17,10 +17,9 @@ use Rattle.files.specs.Held.{blank, held_as, held}
 use Rattle.files.proofs.Filled.{take-filled}
 use Rattle.files.proofs.RoundTrip.{Good, good_read}
 use Rattle.layout.specs.Layout.{Piece, pieces_of, start_of, end_of, fits}
-use Rattle.layout.specs.Arrays.{pieces_in, layout_of}
+use Rattle.layout.specs.Arrays.{layout_of}
 use Rattle.layout.proofs.Places.{start_low}
 use Rattle.layout.proofs.Pieces.{start_held, no_start_held}
-use Rattle.memory.specs.Memory.{memory_size, table_size}
 use Rattle.memory.proofs.Exact.{exact_lengths_lem}
 use Rattle.heap.specs.Lent.{After}
 use Rattle.start.specs.declared.Laid.{Laid}
@@ -31,7 +30,7 @@ use Rattle.stops.specs.Stop.{refused_run}
 use Rattle.machine.specs.State.{Given, start_state}
 use Rattle.machine.specs.Runs.{runs}
 use Rattle.machine.specs.Colors.{table_rule}
-use Rattle.machine.specs.Running.{Lent, Answer, refuse, leaves, run_program, run_reading, exact_lengths, run_file, lent_of, answered}
+use Rattle.machine.specs.Running.{Lent, refuse, leaves, run_program, run_reading, exact_lengths, run_file, lent_of, answered}
 use Rattle.machine.specs.Turn.{held_rule, Low, AllNarrow, run_held}
 use Rattle.machine.proofs.Agreeing.{same_runs}
 use Rattle.machine.proofs.Temporaries.{narrow_code}

@@ -12,7 +12,7 @@ use Rattle.opcodes.proofs.Operands.{each_then}
 use Rattle.files.specs.Writing.{every, good_operand, good_instr}
 use Rattle.files.proofs.SpelledInstructions.{good_parts_lem}
 use Rattle.files.proofs.Tests.{every_at}
-use Rattle.machine.specs.Turn.{NarrowOperand, Narrow, AllNarrow}
+use Rattle.machine.specs.Turn.{NarrowOperand, AllNarrow}
 
 narrow_operand : (scope : Scope) (kind : Operand) (x : ℕ) → good_operand scope kind x ≡ true → NarrowOperand kind x
 narrow_operand scope Operand.None x e = tt

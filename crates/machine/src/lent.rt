@@ -8,7 +8,7 @@ ghost use Rattle.machine.specs.State.{temp};
 ghost use Rattle.machine.specs.Turn.{Counts, Low, reason_of, load_turn, load_temps, store_turn, check_turn};
 ghost use Rattle.machine.specs.Turn.{alloc_turn, alloc_temps, release_turn, free_at};
 
-use super::progress::Progress;
+use super::progress::{Progress, Turn};
 use super::temps::{becomes, value};
 use heap::HeapError;
 use memory::widths::Width;
@@ -55,44 +55,34 @@ pub(crate) fn load<W: Width>(
     from: Progress,
     d: u8,
     address: u32,
-) -> Result<Progress, Reason>
+) -> Turn
     requires { (Counts from) × (d < 16) }
     ensures value { result ≡ load_turn from (loaded W.bytes memory.now address) }
     ensures temps_after { temps.new ≡ load_temps temps.old d (loaded W.bytes memory.now address) }
 {
     let number = memory::bytes::load::<W>(memory, address).ok_or(Reason::ReadOutside)?;
-    Ok(becomes(from, d, number, temps))
+    becomes(from, d, number, temps)
 }
 
 // The low bytes of a number are written from an address on.
-pub(crate) fn store<W: Width>(
-    memory: &mut [u8],
-    from: Progress,
-    address: u32,
-    number: u32,
-) -> Result<Progress, Reason>
+pub(crate) fn store<W: Width>(memory: &mut [u8], from: Progress, address: u32, number: u32) -> Turn
     requires { Counts from }
     ensures value { result ≡ store_turn from (within W.bytes memory.old address) }
     ensures memory_after { memory.new ≡ stored W.bytes memory.old address number }
 {
     if memory::bytes::store::<W>(memory, address, number) {
-        return Ok(from.completed());
+        return from.completed();
     }
     Err(Reason::StoreOutside)
 }
 
 // A check that the table allows passes, and costs no step.
-pub(crate) fn check<W: Width>(
-    table: &[u8],
-    from: Progress,
-    address: u32,
-    color: u8,
-) -> Result<Progress, Reason>
+pub(crate) fn check<W: Width>(table: &[u8], from: Progress, address: u32, color: u8) -> Turn
     requires { Counts from }
     ensures { result ≡ check_turn from (every_byte W.bytes (has_color table.now color) address) }
 {
     if memory::colors::check::<W>(table, address, color) {
-        return Ok(from.passed());
+        return from.passed();
     }
     Err(Reason::Forbidden)
 }
@@ -107,7 +97,7 @@ pub(crate) fn alloc(
     d: u8,
     g: u16,
     a: u8,
-) -> Result<Progress, Reason>
+) -> Turn
     requires { (Counts from) × (d < 16) × (a < 16) }
     ensures value { result ≡ alloc_turn from (allocated memory.old table.old (temp temps.old a) g (color_of_object objects.now g)).answer }
     ensures temps_after { temps.new ≡ alloc_temps temps.old d (allocated memory.old table.old (temp temps.old a) g (color_of_object objects.now g)).answer }
@@ -118,16 +108,11 @@ pub(crate) fn alloc(
     let body = heap::making::alloc(memory, table, size, g, color_of(objects, g)).map_err(
         reason_of,
     )?;
-    Ok(becomes(from, d, body.unwrap_or(0), temps))
+    becomes(from, d, body.unwrap_or(0), temps)
 }
 
 // FREE: an address that is not 0 is given back.
-pub(crate) fn free(
-    memory: &mut [u8],
-    table: &mut [u8],
-    from: Progress,
-    address: u32,
-) -> Result<Progress, Reason>
+pub(crate) fn free(memory: &mut [u8], table: &mut [u8], from: Progress, address: u32) -> Turn
     requires { Counts from }
     ensures value { result ≡ release_turn from (free_at memory.old table.old address).answer }
     ensures memory_after { memory.new ≡ (free_at memory.old table.old address).memory }
@@ -136,5 +121,5 @@ pub(crate) fn free(
     if address != 0 {
         heap::freeing::free(memory, table, address).map_err(reason_of)?;
     }
-    Ok(from.completed())
+    from.completed()
 }

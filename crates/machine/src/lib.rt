@@ -35,9 +35,10 @@ pub fn run_file(
             place: 0,
         });
     }
-    let held = match files::read_program(file) {
+    let read = files::read_program(file);
+    let held = match &read {
         Ok(held) => held,
-        Err(why) => return refused(why),
+        Err(why) => return refused(*why),
     };
     // Refusal 9 comes before anything is changed.
     let laid = start::lay(&held.objects, memory, table);

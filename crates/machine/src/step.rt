@@ -4,7 +4,7 @@ ghost use Rattle.machine.specs.Turn.{held, Ready, Low, Narrow, turned, turn_of};
 
 use super::lent::{alloc, byte_of, check, free, load, start_of, store};
 use super::moves::{put_out, take_input};
-use super::progress::Progress;
+use super::progress::{Progress, Turn};
 use super::temps::{becomes, value};
 use memory::widths::{Four, One};
 use opcodes::{Instr, Object};
@@ -20,25 +20,25 @@ pub(crate) fn step(
     memory: &mut [u8],
     table: &mut [u8],
     room: &mut [u32],
-) -> Result<Progress, Reason>
+) -> Turn
     requires { (Low starts.now) × (Ready (held temps.old memory.old table.old room.old) from) × (Narrow i) }
     ensures { turned result (held temps.new memory.new table.new room.new) ≡ turn_of starts.now objects.now input.now (held temps.old memory.old table.old room.old) from i }
 {
     match i {
         Instr::End => Err(Reason::Finished),
-        Instr::Set(d, n) => Ok(becomes(from, d, n, temps)),
-        Instr::Place(d, g) => Ok(becomes(from, d, start_of(starts, g), temps)),
+        Instr::Set(d, n) => becomes(from, d, n, temps),
+        Instr::Place(d, g) => becomes(from, d, start_of(starts, g), temps),
         Instr::Add(d, a, b) => {
             let sum = value(temps, a).wrapping_add(value(temps, b));
-            Ok(becomes(from, d, sum, temps))
+            becomes(from, d, sum, temps)
         }
         Instr::Sub(d, a, b) => {
             let difference = value(temps, a).wrapping_sub(value(temps, b));
-            Ok(becomes(from, d, difference, temps))
+            becomes(from, d, difference, temps)
         }
         Instr::Less(d, a, b) => {
             let less = value(temps, a) < value(temps, b);
-            Ok(becomes(from, d, u32::from(less), temps))
+            becomes(from, d, u32::from(less), temps)
         }
         Instr::Load8(d, a) => load::<One>(memory, temps, from, d, value(temps, a)),
         Instr::Load32(d, a) => load::<Four>(memory, temps, from, d, value(temps, a)),
@@ -51,14 +51,14 @@ pub(crate) fn step(
         ),
         Instr::Write8(a, b, _) => store::<One>(memory, from, value(temps, a), value(temps, b)),
         Instr::Write32(a, b, _) => store::<Four>(memory, from, value(temps, a), value(temps, b)),
-        Instr::Jump(p) => Ok(from.jumped(p)),
+        Instr::Jump(p) => from.jumped(p),
         // Both ways are answered here: a function of its own is compiled to one place that the value
         // chooses, and the next instruction then waits for the value.
         Instr::JumpIf(a, p) => {
             if value(temps, a) != 0 {
-                return Ok(from.jumped(p));
+                return from.jumped(p);
             }
-            Ok(from.completed())
+            from.completed()
         }
         Instr::Alloc(d, g, a) => alloc(memory, table, objects, temps, from, d, g, a),
         Instr::Free(a) => free(memory, table, from, value(temps, a)),

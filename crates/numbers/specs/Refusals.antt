@@ -1,5 +1,5 @@
 -- 01's table of refusals: the number of each reason, and a reason with its place.
-use Rattle.std.specs.Prelude.{ℕ}
+use Rattle.std.specs.Prelude.{ℕ, List, ◌++◌, codes, decimal}
 use Rattle.numbers.specs.declared.refusal.Refusal.{Refusal}
 use Rattle.numbers.specs.declared.refusal.Cause.{Cause}
 
@@ -18,6 +18,11 @@ refusal_number Cause.ManyClasses = 8
 refusal_number Cause.LargeGlobals = 9
 refusal_number Cause.SmallRoom = 10
 refusal_number Cause.WrongLength = 11
+refusal_number (Cause.Other number) = number
 
 abbrev pub refusal : Cause → (place : ℕ) → Refusal
 refusal cause place = record { cause = cause; place = place }
+
+-- "with single blanks", "for a refusal, number and place"
+abbrev pub refusal_text : Refusal → List ℕ
+refusal_text q = decimal (refusal_number q.cause) ++ codes " " ++ decimal q.place

@@ -1,5 +1,6 @@
 // Why a file is not taken: 01's refusals, each with its number and its place.
-ghost use Rattle.std.specs.Prelude.{◌≡◌};
+ghost use Rattle.std.specs.Prelude.{◌≡◌, Some};
+ghost use Rattle.numbers.specs.Refusals.{refusal_text};
 
 use std::fmt;
 
@@ -21,6 +22,8 @@ pub enum Cause {
     SmallRoom,
     // Memory or table not of its exact length.
     WrongLength,
+    // A number that 01 does not have. Nothing here answers with one; what takes a refusal takes it too.
+    Other(u8),
 }
 
 impl Cause {
@@ -42,6 +45,7 @@ impl Cause {
             Cause::LargeGlobals => 9,
             Cause::SmallRoom => 10,
             Cause::WrongLength => 11,
+            Cause::Other(number) => number,
         }
     }
 }
@@ -55,6 +59,8 @@ pub struct Refusal {
 
 // Number and place, with a blank between.
 impl fmt::Display for Refusal {
+    ghost output = { λ q. Some (refusal_text q) };
+
     fn fmt<W: fmt::Write>(&self, f: &mut fmt::Formatter<W>) -> fmt::Result {
         write!(f, "{} {}", self.cause.number(), self.place)
     }

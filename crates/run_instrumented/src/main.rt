@@ -7,8 +7,11 @@
 
 mod inputs; // inputs.rt: the arguments as numbers
 
+ghost use Rattle.std.specs.Prelude.{◌≡◌, ◌≤◌, IfOk, length};
+
 use inputs::read_inputs;
 use std::io;
+use std::io::Read;
 use std::rt::Env;
 use stops::Run;
 
@@ -83,9 +86,26 @@ fn run_with(rt: &(impl Print + Eprint + Env), file: &[u8]) -> io::Result<()> {
     }
 }
 
+// Reads until the buffer is full or the input ends, and returns how many bytes that were. The buffer keeps its
+// length. Each program has this function for itself (docs/DECISIONS.md, D-64).
+fn read_full(input: &mut impl Read, buffer: &mut [u8]) -> io::Result<usize>
+    ensures count { IfOk result (λ n. n ≤ length buffer.new) }
+    ensures length { length buffer.new ≡ length buffer.old }
+{
+    let mut done = 0;
+    while done < buffer.len() {
+        let n = input.read(&mut buffer[done..])?;
+        if n == 0 {
+            break;
+        }
+        done += n;
+    }
+    Ok(done)
+}
+
 fn main(rt: HostRuntime) -> io::Result<()> {
     let mut file = [0u8; LONGEST];
-    match input::read_full(&mut rt.stdin(), &mut file) {
+    match read_full(&mut rt.stdin(), &mut file) {
         Ok(length) => run_with(&rt, &file[..length]),
         // As where standard input is a folder.
         Err(e) => eprintln!(rt; "standard input: {e}"),

@@ -3,7 +3,10 @@
 // number and place.
 #![tactic(auto)]
 
+ghost use Rattle.std.specs.Prelude.{◌≡◌, ◌≤◌, IfOk, length};
+
 use std::io;
+use std::io::Read;
 
 // One byte more than the longest file, so that a longer one is seen to be too long.
 const LONGEST: usize = 16385;
@@ -17,9 +20,26 @@ fn run_routine(rt: &impl Print, file: &[u8]) -> io::Result<()> {
     println!(rt; "{run}")
 }
 
+// Reads until the buffer is full or the input ends, and returns how many bytes that were. The buffer keeps its
+// length. Each program has this function for itself (docs/DECISIONS.md, D-64).
+fn read_full(input: &mut impl Read, buffer: &mut [u8]) -> io::Result<usize>
+    ensures count { IfOk result (λ n. n ≤ length buffer.new) }
+    ensures length { length buffer.new ≡ length buffer.old }
+{
+    let mut done = 0;
+    while done < buffer.len() {
+        let n = input.read(&mut buffer[done..])?;
+        if n == 0 {
+            break;
+        }
+        done += n;
+    }
+    Ok(done)
+}
+
 fn main(rt: HostRuntime) -> io::Result<()> {
     let mut file = [0u8; LONGEST];
-    match input::read_full(&mut rt.stdin(), &mut file) {
+    match read_full(&mut rt.stdin(), &mut file) {
         Ok(length) => run_routine(&rt, &file[..length]),
         // As where standard input is a folder.
         Err(e) => eprintln!(rt; "standard input: {e}"),

@@ -4,10 +4,13 @@
 // of the refusal. A file whose first byte is 2 is read as version 2, any other as version 1.
 #![tactic(auto)]
 
+ghost use Rattle.std.specs.Prelude.{◌≡◌, ◌≤◌, IfOk, length};
+
 use coloring::read_colored;
 use files::{Loaded, Objects};
 use layout::lay_out;
 use numbers::refusal::{Cause, Refusal};
+use std::io::Read;
 use std::{fmt, io};
 
 // One byte more than the longest file, so that a longer one is seen to be too long.
@@ -90,15 +93,32 @@ fn read_either(file: &[u8]) -> Result<Loaded, Refusal> {
 }
 
 fn show_objects(rt: &impl Print, file: &[u8]) -> io::Result<()> {
-    match read_either(file) {
+    match &read_either(file) {
         Ok(held) => print_objects(rt, &held.objects),
         Err(why) => println!(rt; "{why}"),
     }
 }
 
+// Reads until the buffer is full or the input ends, and returns how many bytes that were. The buffer keeps its
+// length. Each program has this function for itself (docs/DECISIONS.md, D-64).
+fn read_full(input: &mut impl Read, buffer: &mut [u8]) -> io::Result<usize>
+    ensures count { IfOk result (λ n. n ≤ length buffer.new) }
+    ensures length { length buffer.new ≡ length buffer.old }
+{
+    let mut done = 0;
+    while done < buffer.len() {
+        let n = input.read(&mut buffer[done..])?;
+        if n == 0 {
+            break;
+        }
+        done += n;
+    }
+    Ok(done)
+}
+
 fn main(rt: HostRuntime) -> io::Result<()> {
     let mut file = [0u8; LONGEST];
-    match input::read_full(&mut rt.stdin(), &mut file) {
+    match read_full(&mut rt.stdin(), &mut file) {
         Ok(length) => show_objects(&rt, &file[..length]),
         // As where standard input is a folder.
         Err(e) => eprintln!(rt; "standard input: {e}"),

@@ -1,5 +1,5 @@
 -- 01, "Numbers that come back": the number of each way to stop, and what a stop's record holds.
-use Rattle.std.specs.Prelude.{ℕ, ◌+◌, List, [], ◌∷◌, take}
+use Rattle.std.specs.Prelude.{ℕ, ◌+◌, List, [], ◌∷◌, ◌++◌, take, codes, decimal}
 use Rattle.numbers.specs.Refusals.{refusal_number}
 use Rattle.numbers.specs.declared.refusal.Refusal.{Refusal}
 use Rattle.opcodes.specs.declared.Instr.{Instr}
@@ -43,6 +43,30 @@ place_of run = place_for run.reason run.place
 -- "reason, place, steps, numbers out, numbers taken"
 abbrev pub five_of : Run → List ℕ
 five_of run = number_of run.reason ∷ place_of run ∷ run.steps ∷ run.out ∷ run.taken ∷ []
+
+-- "prints those five numbers with single blanks .. for a refusal, number and place": how many of the five are printed
+abbrev pub shown_of : Reason → ℕ
+shown_of Reason.Finished = 5
+shown_of Reason.PastEnd = 5
+shown_of Reason.LimitUsed = 5
+shown_of Reason.NoInput = 5
+shown_of Reason.NoRoom = 5
+shown_of Reason.ReadOutside = 5
+shown_of Reason.StoreOutside = 5
+shown_of Reason.Forbidden = 5
+shown_of Reason.BadFree = 5
+shown_of Reason.Unsound = 5
+shown_of (Reason.Refused q) = 2
+
+-- numbers in decimal with single blanks
+abbrev pub spaced : List ℕ → List ℕ
+spaced [] = []
+spaced (n ∷ []) = decimal n
+spaced (n ∷ m ∷ ns) = decimal n ++ codes " " ++ spaced (m ∷ ns)
+
+-- what is printed of a run
+abbrev pub line_of : Run → List ℕ
+line_of run = spaced (take (shown_of run.reason) (five_of run))
 
 -- "A refusal .. has zeros in its other fields"
 abbrev pub refused_run : Refusal → Run

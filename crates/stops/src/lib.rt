@@ -1,8 +1,8 @@
 // Why a run stopped, or why there was none; its record, and the five numbers that come back.
 #![tactic(auto)]
 
-ghost use Rattle.std.specs.Prelude.{◌≡◌};
-ghost use Rattle.stops.specs.Stop.{number_of, place_for, refused_run, five_of};
+ghost use Rattle.std.specs.Prelude.{◌≡◌, Some};
+ghost use Rattle.stops.specs.Stop.{number_of, place_for, refused_run, five_of, line_of};
 
 use numbers::refusal::Refusal;
 use std::fmt;
@@ -95,20 +95,15 @@ pub fn numbers_of(run: Run) -> [u64; 5]
     ]
 }
 
-// The five numbers with single blanks; of a refusal its number and place.
+// A run's line: its five numbers with single blanks; of a refusal its number and place.
 impl fmt::Display for Run {
+    ghost output = { λ run. Some (line_of run) };
+
     fn fmt<W: fmt::Write>(&self, f: &mut fmt::Formatter<W>) -> fmt::Result {
+        let [number, place, steps, out, taken] = numbers_of(*self);
         match self.reason {
-            Reason::Refused(why) => write!(f, "{why}"),
-            reason => write!(
-                f,
-                "{} {} {} {} {}",
-                reason.number(),
-                self.place,
-                self.steps,
-                self.out,
-                self.taken
-            ),
+            Reason::Refused(_) => write!(f, "{number} {place}"),
+            _ => write!(f, "{number} {place} {steps} {out} {taken}"),
         }
     }
 }

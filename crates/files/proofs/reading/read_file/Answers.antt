@@ -8,7 +8,8 @@ use Rattle.files.specs.declared.arrays.Sets.{Sets}
 use Rattle.files.specs.declared.arrays.Loaded.{Loaded}
 use Rattle.files.specs.Program.{longest}
 use Rattle.files.specs.Held.{held, objects_held, sets_held, code_held}
-use Rattle.files.proofs.Answered.{was_read, was_refused}
+use Rattle.files.proofs.Answered.{was_read, was_refused, was_held, was_not_held}
+use Rattle.files.proofs.Filled.{blank_sets, blank_code}
 use Rattle.files.proofs.Stages.{few_objects, few_sets, too_long_lem, no_objects, no_sets, no_code, bytes_behind, all_read, held_count, held_list, sets_behind, code_behind, held_all}
 use Rattle.files.proofs.reading.read_file.Goals as goal
 
@@ -25,14 +26,17 @@ returns-in_err-objects c =
 pub sets_of-requires : goal.sets_of-requires
 sets_of-requires c =
     let o = was_read objects_held _ c.objects_of.ensures c.in_ok-objects.was in
-    (omega (arith, c.if-longest_file-file.false, c.longest_file.ensures), omega (arith, held_count o.thing o.held_as, few_objects _ _ o.read))
+    record {
+      few = (omega (arith, c.if-longest_file-file.false, c.longest_file.ensures), omega (arith, held_count o.thing o.held_as, few_objects _ _ o.read));
+      blank = blank_sets;
+    }
 
-pub returns-in_err-sets : goal.returns-in_err-sets
-returns-in_err-sets c =
+pub returns-in_err-past_sets : goal.returns-in_err-past_sets
+returns-in_err-past_sets c =
     let short : length c.args.file.now ≤ longest c.args.version = omega (arith, c.if-longest_file-file.false, c.longest_file.ensures) in
-    let handed : c.from_residual-in_err-sets.result ≡ Err c.in_err-sets.field-0.0 = search rules in
+    let handed : c.from_residual-in_err-past_sets.result ≡ Err c.in_err-past_sets.field-0.0 = search rules in
     let o = was_read objects_held _ c.objects_of.ensures c.in_ok-objects.was in
-    let none = was_refused sets_held _ (sets_behind o.thing o.held_as _ _ _ c.sets_of.ensures) c.in_err-sets.was in
+    let none = was_not_held sets_held _ _ (sets_behind o.thing o.held_as _ _ _ _ _ c.sets_of.ensures) c.in_err-past_sets.was in
     handed ∙ sym (ap held (no_sets _ _ short o.read none))
 
 pub shared_ref_as_front-named : goal.shared_ref_as_front-named
@@ -43,31 +47,34 @@ shared_ref_as_front-named c =
 pub code_of-requires : goal.code_of-requires
 code_of-requires c =
     let o = was_read objects_held _ c.objects_of.ensures c.in_ok-objects.was in
-    let s = was_read sets_held _ (sets_behind o.thing o.held_as _ _ _ c.sets_of.ensures) c.in_ok-sets.was in
-    (omega (arith, ap length (held_list o.thing o.held_as), few_objects _ _ o.read), omega (arith, ap (λ (x : Sets). x.count) s.held_as, few_sets _ _ _ _ s.read))
+    let s = was_held sets_held _ (sets_behind o.thing o.held_as _ _ _ _ _ c.sets_of.ensures) c.in_ok-past_sets.was in
+    record {
+      few = (omega (arith, ap length (held_list o.thing o.held_as), few_objects _ _ o.read), omega (arith, ap (λ (x : Sets). x.count) s.held_as, few_sets _ _ _ _ s.read));
+      blank = blank_code;
+    }
 
-pub returns-in_err-code : goal.returns-in_err-code
-returns-in_err-code c =
+pub returns-in_err-next : goal.returns-in_err-next
+returns-in_err-next c =
     let short : length c.args.file.now ≤ longest c.args.version = omega (arith, c.if-longest_file-file.false, c.longest_file.ensures) in
-    let handed : c.from_residual-in_err-code.result ≡ Err c.in_err-code.field-0.0 = search rules in
+    let handed : c.from_residual-in_err-next.result ≡ Err c.in_err-next.field-0.0 = search rules in
     let o = was_read objects_held _ c.objects_of.ensures c.in_ok-objects.was in
-    let s = was_read sets_held _ (sets_behind o.thing o.held_as _ _ _ c.sets_of.ensures) c.in_ok-sets.was in
-    let none = was_refused code_held _ (code_behind o.thing o.held_as _ _ _ s.thing s.held_as c.code_of.ensures) c.in_err-code.was in
+    let s = was_held sets_held _ (sets_behind o.thing o.held_as _ _ _ _ _ c.sets_of.ensures) c.in_ok-past_sets.was in
+    let none = was_not_held code_held _ _ (code_behind o.thing o.held_as _ _ _ s.thing _ _ s.held_as c.code_of.ensures) c.in_err-next.was in
     handed ∙ sym (ap held (no_code _ _ short o.read s.read none))
 
 pub returns-then-next-file : goal.returns-then-next-file
 returns-then-next-file c =
     let short : length c.args.file.now ≤ longest c.args.version = omega (arith, c.if-longest_file-file.false, c.longest_file.ensures) in
     let o = was_read objects_held _ c.objects_of.ensures c.in_ok-objects.was in
-    let s = was_read sets_held _ (sets_behind o.thing o.held_as _ _ _ c.sets_of.ensures) c.in_ok-sets.was in
-    let k = was_read code_held _ (code_behind o.thing o.held_as _ _ _ s.thing s.held_as c.code_of.ensures) c.in_ok-code.was in
+    let s = was_held sets_held _ (sets_behind o.thing o.held_as _ _ _ _ _ c.sets_of.ensures) c.in_ok-past_sets.was in
+    let k = was_held code_held _ (code_behind o.thing o.held_as _ _ _ s.thing _ _ s.held_as c.code_of.ensures) c.in_ok-next.was in
     sym (ap held (bytes_behind _ _ short o.read s.read k.read c.if-next-file.true))
 
 pub returns : goal.returns
 returns c =
     let short : length c.args.file.now ≤ longest c.args.version = omega (arith, c.if-longest_file-file.false, c.longest_file.ensures) in
     let o = was_read objects_held _ c.objects_of.ensures c.in_ok-objects.was in
-    let s = was_read sets_held _ (sets_behind o.thing o.held_as _ _ _ c.sets_of.ensures) c.in_ok-sets.was in
-    let k = was_read code_held _ (code_behind o.thing o.held_as _ _ _ s.thing s.held_as c.code_of.ensures) c.in_ok-code.was in
+    let s = was_held sets_held _ (sets_behind o.thing o.held_as _ _ _ _ _ c.sets_of.ensures) c.in_ok-past_sets.was in
+    let k = was_held code_held _ (code_behind o.thing o.held_as _ _ _ s.thing _ _ s.held_as c.code_of.ensures) c.in_ok-next.was in
     ap (λ (x : Loaded). Ok x) (held_all o.thing s.thing k.thing o.held_as s.held_as k.held_as)
     ∙ sym (ap held (all_read _ _ short o.read s.read k.read c.if-next-file.false))
