@@ -9,8 +9,8 @@ cd "$(dirname "$0")/.." || exit 2
 stated=crates/unique/specs/Once.antt
 proved=crates/unique/proofs/Once.antt
 
-# A line for each public function of a source: name, parameters, and what its statement has to promise. The
-# answer comes first, as `result`, then each lent buffer's name with a mark for what it holds afterwards; clauses
+# A line for each public function of a source: name, the form that its statement has, parameters, and what it has to
+# promise. The answer comes first, as `result`, then each lent buffer's name with a mark for what it holds afterwards; clauses
 # are joined by a product.
 contracts() { # FILE
     awk '
@@ -66,23 +66,32 @@ contracts() { # FILE
             }
             if (clauses > 1) promise = "(" promise ")"
             if (many > 1) bound = "(" bound ")"
-            print name "|" names "|λ " bound ". " promise
+            # what a reader gives comes from outside: its statement speaks of readings that succeed, of known bytes
+            print name "|" (head ~ /<R: Read>/ ? "IsSome input → Alike" : "Once") "|" names "|λ " bound ". " promise
         }' "$1" |
-        sed -E "s/W\.bytes/bytes/g; s/(^|[ (])([a-z0-9_]+)\.new/\1\2'/g; s/(^|[ (])([a-z0-9_]+)\.(now|old)/\1\2/g; s/([a-z0-9_]+)\.entry/\1/g
+        sed -E "s/W\.bytes/bytes/g; s/\(R\.remaining ([a-z.]+)\)/\1/g
+            s/(^|[ (])([a-z0-9_]+)\.new/\1\2'/g; s/(^|[ (])([a-z0-9_]+)\.(now|old)/\1\2/g; s/([a-z0-9_]+)\.entry/\1/g
             s/  +/ /g"
 }
 
-# What stands in a statement: its parameters, and its promise, with the answer as `result`.
+# What stands in a statement: its form with what it asks, its parameters, and its promise, with the answer as
+# `result`.
 statement() { # NAME
     awk -v name="$1" '
         BEGIN { RS = "" }
         index($0, "abbrev pub " name " : Type 0\n" name " =") == 1 {
             gsub(/[ \n]+/, " ")
             sub(/^.* : Type 0 [^ ]+ = /, "")
-            at = index($0, "→ Once ")
+            form = index($0, "→ Alike ") ? "Alike" : "Once"
+            at = index($0, "→ " form " ")
             names = substr($0, 1, at - 1)
-            promise = substr($0, at + length("→ Once "))
-            sub(/^\{A = [^}]*\} /, "", promise)
+            promise = substr($0, at + length("→ " form " "))
+            sub(/^\{[AE] = [^}]*\} /, "", promise)
+            # what stands beside the parameters, which have names, is asked, and belongs to the form
+            asked = names
+            while (sub(/\([a-z0-9_ ]+ : ([^()]|\([^()]*\))*\)/, "", asked)) {}
+            gsub(/^[ →]+|[ →]+$/, "", asked)
+            form = asked (asked == "" ? "" : " → ") form
             while (match(names, /\([a-z0-9_ ]+ :/)) {
                 list = list (list == "" ? "" : " ") substr(names, RSTART + 1, RLENGTH - 3)
                 names = substr(names, RSTART + RLENGTH)
@@ -96,7 +105,7 @@ statement() { # NAME
                     promise = substr(promise, 1, at - 1) "result" substr(promise, at + length(answer))
                 }
             }
-            print list "|" promise
+            print form "|" list "|" promise
         }' "$stated" | sed -E 's/[A-Z][A-Za-z]*\.([a-z])/\1/g'
 }
 
@@ -105,14 +114,14 @@ functions=0
 for root in crates/*/src/lib.rt; do
     crate=${root#crates/}
     crate=${crate%%/*}
-    while IFS='|' read -r function names promise; do
+    while IFS='|' read -r function form names promise; do
         # controller_c hands on a function of controller, with its clauses, under the name that hosts link
         case $crate in *_c) ;; *) functions=$((functions + 1)) ;; esac
         name=${crate%_c}_$function
         if ! grep -q "^pub ${name}_once : $name\$" "$proved"; then
             flunk "$crate: $function has no statement that is proved"
         else
-            same "$crate: $function" "$names|$promise" "$(statement "$name")"
+            same "$crate: $function" "$form|$names|$promise" "$(statement "$name")"
         fi
     done < <(find "${root%/lib.rt}" -name '*.rt' | sort | while read -r source; do contracts "$source"; done)
 done

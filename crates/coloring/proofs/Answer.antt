@@ -58,7 +58,7 @@ module _ (file : List ℕ) (l : Loaded) (e : ◌≡◌ {A = Result Loaded Refusa
   pub few_objects : l.objects.count ≤ 400
   few_objects = is_read.objects
 
-  read_colored : held (colored (read_file 1 file)) ≡ held (colored (whole (program_in l)))
+  pub read_colored : held (colored (read_file 1 file)) ≡ held (colored (whole (program_in l)))
   read_colored = ap (λ (r : Reading). held (colored r)) sound.1
 
 pub read_refused : (file : List ℕ) (q : Refusal) → ◌≡◌ {A = Result Loaded Refusal} (Err q) (held (read_file 1 file)) → ◌≡◌ {A = Result Loaded Refusal} (Err q) (held (colored (read_file 1 file)))
@@ -97,16 +97,17 @@ module _ (p : Program) (good : Good 1 p) where
       ap (λ (o : Objects). Ok (record (held_as p) { objects = o })) objects_painted
       ∙ sym (ap pick (le-leb (class_count p) 254 (omega (arith, counted p good))))
 
-module _ (file : List ℕ) (l : Loaded) (e : ◌≡◌ {A = Result Loaded Refusal} (Ok l) (held (read_file 1 file))) where
+-- of what is read, where its program is known
+module _ (l : Loaded) (read : IsRead l) where
   s : Sound l
-  s = (sound file l e).0
+  s = (sound read.file l read.reading).0
 
   pub labels_lowest : Lowest (labels_of (program_in l))
   labels_lowest = rw s.said (lowest_labels s.p s.good)
 
   pub many_classes : 254 < classes_in (take l.objects.count (labels_of (program_in l)))
-      → ◌≡◌ {A = Result Loaded Refusal} (Err (refusal Cause.ManyClasses 0)) (held (colored (read_file 1 file)))
-  many_classes many = go s.p s.good s.held_so many ∙ sym (read_colored file l e)
+      → ◌≡◌ {A = Result Loaded Refusal} (Err (refusal Cause.ManyClasses 0)) (held (colored (whole (program_in l))))
+  many_classes = go s.p s.good s.held_so
     where
       go : (p : Program) → Good 1 p → l ≡ held_as p → 254 < classes_in (take l.objects.count (labels_of (program_in l)))
           → ◌≡◌ {A = Result Loaded Refusal} (Err (refusal Cause.ManyClasses 0)) (held (colored (whole (program_in l))))
@@ -115,9 +116,24 @@ module _ (file : List ℕ) (l : Loaded) (e : ◌≡◌ {A = Result Loaded Refusa
   pub few_classes : classes_in (take l.objects.count (labels_of (program_in l))) ≤ 254
       → ◌≡◌ {A = Result Loaded Refusal}
       (Ok (record l { objects = painted (color_by (labels_of (program_in l))) l.objects }))
-      (held (colored (read_file 1 file)))
-  few_classes few = go s.p s.good s.held_so few ∙ sym (read_colored file l e)
+      (held (colored (whole (program_in l))))
+  few_classes = go s.p s.good s.held_so
     where
       go : (p : Program) → Good 1 p → l ≡ held_as p → classes_in (take l.objects.count (labels_of (program_in l))) ≤ 254
           → ◌≡◌ {A = Result Loaded Refusal} (Ok (record l { objects = painted (color_by (labels_of (program_in l))) l.objects })) (held (colored (whole (program_in l))))
       go p good e = rw (e, program_held p) (few_held p good)
+
+-- of the file that was read
+module _ (file : List ℕ) (l : Loaded) (e : ◌≡◌ {A = Result Loaded Refusal} (Ok l) (held (read_file 1 file))) where
+  pub file_labels_lowest : Lowest (labels_of (program_in l))
+  file_labels_lowest = labels_lowest l (is_read file l e)
+
+  pub file_many_classes : 254 < classes_in (take l.objects.count (labels_of (program_in l)))
+      → ◌≡◌ {A = Result Loaded Refusal} (Err (refusal Cause.ManyClasses 0)) (held (colored (read_file 1 file)))
+  file_many_classes many = many_classes l (is_read file l e) many ∙ sym (read_colored file l e)
+
+  pub file_few_classes : classes_in (take l.objects.count (labels_of (program_in l))) ≤ 254
+      → ◌≡◌ {A = Result Loaded Refusal}
+      (Ok (record l { objects = painted (color_by (labels_of (program_in l))) l.objects }))
+      (held (colored (read_file 1 file)))
+  file_few_classes few = few_classes l (is_read file l e) few ∙ sym (read_colored file l e)

@@ -36,7 +36,7 @@ fn labels_of(routine: &Loaded) -> [u16; 400]
 // Reads bytes as a routine and gives its objects their colors, in the answer where they are held (docs/DECISIONS.md,
 // D-61). The answer has 0 as the color of a safe object, and 2, 3, .. for the classes in the order of their lowest
 // objects; there are colors for 254 classes.
-#[tactic(auto, using(crate::proofs::Answer::is_read, crate::proofs::Answer::few_objects, crate::proofs::Answer::labels_lowest, crate::proofs::Answer::many_classes, crate::proofs::Answer::few_classes, crate::proofs::Answer::read_refused))]
+#[tactic(auto, using(crate::proofs::Answer::is_read, crate::proofs::Answer::few_objects, crate::proofs::Answer::file_labels_lowest, crate::proofs::Answer::file_many_classes, crate::proofs::Answer::file_few_classes, crate::proofs::Answer::read_refused))]
 pub fn read_colored(file: &[u8]) -> Result<Loaded, Refusal>
     ensures { result ≡ held (colored (read_file 1 file.now)) }
 {

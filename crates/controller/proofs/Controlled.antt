@@ -38,7 +38,7 @@ use Rattle.plain.specs.Plain.{plain_run}
 use Rattle.plain.specs.Demands.{NotAccepted, Refuses, Answered, Agree}
 use Rattle.plain.proofs.Itself.{guards_itself}
 use Rattle.plain.proofs.Same.{same_run}
-use Rattle.plain.proofs.Answering.{one_to_seven, read_listed, new_file_short, because_refuses, run_listed}
+use Rattle.plain.proofs.Answering.{one_to_seven, read_listed, new_file_short, because_refuses, run_unrefused, run_listed}
 use Rattle.controller.specs.Control.{given_for, plain_answer, answer_to, control}
 use Rattle.controller.specs.TableAfter.{table_after}
 use Rattle.controller.specs.Demands.{ControlRefuses, control_numbers, ControlIsAnswered, Controls, ControlsAsInstrumented}
@@ -112,7 +112,7 @@ module _ (bytes input : List ℕ) (limit : ℕ) (lent : Lent) where
       let read : read_file 2 out ≡ whole q = ap (read_file 2) (sym w.spelled) ∙ new_file_reads w.routine w.accepted in
       let ran : run_file out input limit lent ≡ run_program input limit lent q =
       rw (exact, run_file) (ap (run_reading input limit lent) read ∙ rw (fits_again w.routine w.accepted, run_reading)) in
-      subst Told (sym ran) (Answered.ended (run_program input limit lent q) (run_listed input limit lent q))
+      subst Told (sym ran) (Answered.ended (run_program input limit lent q) (run_unrefused input limit lent q) (run_listed input limit lent q))
 
   told : (a : FileAnswer) → instrument bytes 32768 ≡ a → exact_lengths lent ≡ true → Controls bytes input limit lent a → Told (control bytes input limit lent)
   told (FileAnswer.file out) e exact k = subst Told (sym k) (run_told out e exact)

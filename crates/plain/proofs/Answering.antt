@@ -2,7 +2,7 @@
 -- is run to a stop or refused for one; what is refused changes nothing.
 use Prim.Native.Nat.{ℕ, zero, suc, ◌≤◌}
 use native.Mathlib.Omega.{arith}
-use mathlib.Core.Path.{◌≡◌, refl, ◌∙◌, ap, subst}
+use mathlib.Core.Path.{◌≡◌, refl, sym, ◌∙◌, ap, subst}
 use mathlib.Core.List.{List, [], ◌∷◌}
 use mathlib.Core.Bool.{Bool, true, false}
 use lib.ListN.{length}
@@ -27,6 +27,7 @@ use Rattle.instrumenter.proofs.Answers as answers
 use Rattle.instrumenter.proofs.Answers.{Because, answered_because}
 use Rattle.instrumenter.proofs.Instrumenting.{instrumented_good}
 use Rattle.instrumenter.proofs.ReadsBack.{new_file_reads}
+use Rattle.stops.specs.declared.Reason.{Reason}
 use Rattle.stops.specs.Stop.{number_of}
 use Rattle.machine.specs.State.{Given}
 use Rattle.start.specs.First.{first_table}
@@ -34,7 +35,7 @@ use Rattle.machine.specs.Colors.{table_rule}
 use Rattle.machine.specs.Running.{Lent, refuse, run_program, run_reading, exact_lengths, run_file}
 use Rattle.plain.specs.Demands.{Stops, NotAccepted, Refuses, RefusedOnlyFor, AcceptedIsWritten, RunRefuses, stop_numbers, run_numbers, Answered, RunIsAnswered}
 use Rattle.plain.proofs.Stopping.{run_stops}
-use Rattle.plain.proofs.Halting.{stops_listed}
+use Rattle.plain.proofs.Halting.{stops_listed, stops_unrefused}
 use Rattle.plain.proofs.Itself.{guards_itself}
 
 -- ---- instrumenting
@@ -100,6 +101,13 @@ pub read_listed : (numbers : List ℕ) → ((n : ℕ) → 1 ≤ n → n ≤ 7 �
     → holds numbers (refusal_number q.cause) ≡ true
 read_listed numbers all version bytes q w = let l = listed version bytes q w in all (refusal_number q.cause) l.least l.most
 
+-- a run is none that was refused
+pub run_unrefused : (input : List ℕ) (limit : ℕ) (lent : Lent) (p : Program) (q : Refusal) → (run_program input limit lent p).run.reason ≡ Reason.Refused q → ⊥
+run_unrefused input limit lent p q e =
+    let given : Given = record { input = input; room = length lent.room; limit = limit } in
+    let end : Stops (table_rule p) given (first_table p) = run_stops (table_rule p) given (first_table p) in
+    stops_unrefused (table_rule p) given end.state end.reason end.stopping q (sym (ap (λ o. o.run.reason) end.outcome) ∙ e)
+
 -- a run stops for one of 01's stops
 pub run_listed : (input : List ℕ) (limit : ℕ) (lent : Lent) (p : Program) → holds stop_numbers (number_of (run_program input limit lent p).run.reason) ≡ true
 run_listed input limit lent p =
@@ -114,7 +122,7 @@ module _ (bytes input : List ℕ) (limit : ℕ) (lent : Lent) where
     where
       go : (b : Bool) → fits (pieces_of p.objects) ≡ b
           → Answered (RunRefuses bytes lent) run_numbers lent (elim b [ true ↦ run_program input limit lent p | false ↦ refuse lent (refusal Cause.LargeGlobals 0) ])
-      go true f = Answered.ended (run_program input limit lent p) (run_listed input limit lent p)
+      go true f = Answered.ended (run_program input limit lent p) (run_unrefused input limit lent p) (run_listed input limit lent p)
       go false f =
           Answered.refused (refusal Cause.LargeGlobals 0) (RunRefuses.overfull p (says 2 bytes p r) (leb-false (end_of (pieces_of p.objects)) 28672 f)) refl
   reading_answered (Reading.refused q) r =

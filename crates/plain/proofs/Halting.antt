@@ -3,6 +3,7 @@ use mathlib.Core.Path.{◌≡◌, refl, subst}
 use mathlib.Core.Bool.{Bool, true, false}
 use lib.ListN.{length, get_or}
 use lib.Dec.{ltb}
+use Rattle.numbers.specs.declared.refusal.Refusal.{Refusal}
 use Rattle.opcodes.specs.declared.Instr.{Instr}
 use Rattle.opcodes.specs.View.{view}
 use Rattle.coloring.specs.Class.{holds}
@@ -54,3 +55,7 @@ module _ {S : Type 0} (rule : Rule S) (given : Given) (s : State S) where
   -- a state that stops does so for one of 01's stops
   pub stops_listed : (x : Reason) → step rule given s ≡ stop x → holds stop_numbers (number_of x) ≡ true
   stops_listed x e = halt_listed x (subst Halts e step_halts)
+
+  -- and not for a refusal, whatever its number
+  pub stops_unrefused : (x : Reason) → step rule given s ≡ stop x → (q : Refusal) → x ≡ Reason.Refused q → ⊥
+  stops_unrefused x e q f = subst Halt f (subst Halts e step_halts)

@@ -98,10 +98,11 @@ stop_numbers = 0 ∷ 30 ∷ 31 ∷ 32 ∷ 33 ∷ 34 ∷ 35 ∷ 36 ∷ 37 ∷ 38 
 abbrev pub run_numbers : List ℕ
 run_numbers = 1 ∷ 2 ∷ 3 ∷ 4 ∷ 5 ∷ 6 ∷ 7 ∷ 9 ∷ 11 ∷ []
 
--- "A refusal changes no lent byte and has zeros in its other fields"; every other answer is a stop's
+-- "A refusal changes no lent byte and has zeros in its other fields"; every other answer is a stop's, and no refusal
 pub data Answered (Refused : Refusal → Type 0) (numbers : List ℕ) (lent : Lent) : running.Answer → Type 0 where
   refused : (q : Refusal) → Refused q → holds numbers (refusal_number q.cause) ≡ true → Answered Refused numbers lent (refuse lent q)
-  ended : (a : running.Answer) → holds stop_numbers (number_of a.run.reason) ≡ true → Answered Refused numbers lent a
+  ended : (a : running.Answer) → ((q : Refusal) → a.run.reason ≡ Reason.Refused q → ⊥) → holds stop_numbers (number_of a.run.reason) ≡ true
+      → Answered Refused numbers lent a
 
 abbrev pub RunIsAnswered : Type 0
 RunIsAnswered = (bytes input : List ℕ) (limit : ℕ) (lent : Lent) → Answered (RunRefuses bytes lent) run_numbers lent (run_file bytes input limit lent)

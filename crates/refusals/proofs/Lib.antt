@@ -2,7 +2,7 @@
 -- definitions of the crates below.
 --
 --   Refused     refused-why: a file that is not read is refused for one of the reasons of specs/Why
---   Places      listed: a reason gives the number, 1 to 7, and where its place is
+--   Places      listed: a reason gives the number, 1 to 7, and where its place is; named: and a cause that 01 has
 --
 -- What carries them:
 --   Numbers     told: a number is read, or the file ends inside one, or an end up to which the bytes are

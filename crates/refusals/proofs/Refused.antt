@@ -15,7 +15,7 @@ use lib.Dec.{leb, eqb}
 use borrow.Author.Tests.{leb-true, leb-false, eqb-false, eq-eqb}
 use Rattle.std.specs.Prelude.{Ok, Err}
 use Rattle.numbers.specs.declared.refusal.Cause.{Cause}
-use Rattle.numbers.specs.Refusals.{refusal_number, refusal}
+use Rattle.numbers.specs.Refusals.{refusal}
 use Rattle.numbers.specs.declared.Cursor.{Cursor}
 use Rattle.numbers.specs.declared.refusal.Refusal.{Refusal}
 use Rattle.numbers.specs.Number.{Read}
@@ -25,17 +25,13 @@ use Rattle.numbers.proofs.Laws as numbers
 use Rattle.opcodes.specs.Ranges.{within}
 use Rattle.opcodes.proofs.Bounds.{within_true}
 use Rattle.files.specs.Program.{Program, longest}
-use Rattle.files.specs.Reading.{judge, judged, Reading, whole, Sort, count, field, refused_with, Plan, done, ask, on, follow, file_plan, read_file}
+use Rattle.files.specs.Reading.{judge, judged, Reading, whole, refused_with, Plan, done, ask, on, follow, file_plan, read_file}
 use Rattle.files.proofs.Following.{read_by_plan}
 use Rattle.files.specs.Writing.{good_program, spell_file}
 use Rattle.files.proofs.RoundTrip.{good_of, reads_back, one_spelling}
 use Rattle.refusals.specs.Why.{Begins, NoneBegins, part, Why, too_long, early, not_a_number, other_version, bad_field, surplus, RefusedWhy}
 use Rattle.refusals.proofs.Agreeing.{Agrees, agrees_itself, agrees_cut, agrees_begun, agrees_earlier}
 use Rattle.refusals.proofs.Numbers.{Told, told, begins_none}
-
-number_bounds : (sort : Sort) → (5 ≤ refusal_number (refused_with sort)) × (refusal_number (refused_with sort) ≤ 6)
-number_bounds count = omega arith
-number_bounds field = omega arith
 
 -- a number that is read stands in the file as it is spelled
 stands : (file : List ℕ) (at : ℕ) {n : ℕ} {c : Cursor} → read_number file at ≡ Ok (n, c) → part file at (at + width n) ≡ spell n
@@ -131,9 +127,8 @@ module _ (version : ℕ) (small : version < 2 ^ 32) (file : List ℕ) (fits : le
             let before : at ≡ length file → ⊥ = eqb-false at (length file) is in
             for e (surplus at p (omega arith) spelled)
     walk (ask sort test next) at inside others =
-        let (low, high) = number_bounds sort in
         asked (refused_with sort) test at (λ other n behind. follow (next n) other behind) inside others
-        (λ n is ends stood none. bad_field (refused_with sort) at n low high ends stood none)
+        (λ n is ends stood none. bad_field sort at n ends stood none)
         (λ n behind ends rest. walk (next n) behind ends rest)
 
 -- a refused file is refused for a reason that its bytes give

@@ -6,7 +6,7 @@ use Rattle.numbers.specs.Refusals.{refusal_number, refusal}
 use Rattle.numbers.specs.declared.refusal.Refusal.{Refusal}
 use Rattle.numbers.specs.Number.{spell, width}
 use Rattle.files.specs.Program.{Program, longest}
-use Rattle.files.specs.Reading.{Reading, read_file}
+use Rattle.files.specs.Reading.{Sort, refused_with, Reading, read_file}
 use Rattle.files.specs.Writing.{good_program, spell_file, Says}
 
 -- a list begins with these bytes
@@ -45,9 +45,9 @@ pub data Why (version : ℕ) (file : List ℕ) : Refusal → Type 0 where
       → Why version file (refusal Cause.Version 0)
   -- "5, 6 | count; any other field out of its range or order | its first byte": a number stands at the
   -- place, and no good file begins with the bytes up to its end
-  bad_field : (cause : Cause) (place n : ℕ) → 5 ≤ refusal_number cause → refusal_number cause ≤ 6 → place + width n ≤ length file
+  bad_field : (sort : Sort) (place n : ℕ) → place + width n ≤ length file
       → part file place (place + width n) ≡ spell n → NoneBegins version (take (place + width n) file)
-      → Why version file (refusal cause place)
+      → Why version file (refusal (refused_with sort) place)
   -- "7 | bytes after the last instruction | the first of them": the bytes before it are a good file
   surplus : (place : ℕ) (p : Program) → place < length file → Says version (take place file) p → Why version file (refusal Cause.Surplus place)
 
@@ -68,3 +68,7 @@ pub record Listed (file : List ℕ) (q : Refusal) : Type 0 where
 -- what has a reason is listed
 abbrev pub WhyListed : Type 0
 WhyListed = (version : ℕ) (file : List ℕ) (q : Refusal) → Why version file q → Listed file q
+
+-- and its cause is one of 01's
+abbrev pub WhyNamed : Type 0
+WhyNamed = (version : ℕ) (file : List ℕ) (q : Refusal) → Why version file q → (number : ℕ) → q.cause ≡ Cause.Other number → ⊥

@@ -1,8 +1,10 @@
 -- Every contract says all that it says by equations, and two things that are equal to one value are
 -- equal.
 use Prim.Native.Nat.{ℕ}
+use lib.ListN.{take, drop}
 use mathlib.Core.Path.{◌≡◌, refl, sym, ◌∙◌, ap}
 use mathlib.Core.List.{List, [], ◌∷◌}
+use mathlib.Core.Bool.{Bool, true, false}
 use denote.Ref.{Bor}
 use Rattle.reader.specs.declared.Reader.{Reader}
 use Rattle.opcodes.specs.declared.Instr.{Instr}
@@ -29,6 +31,8 @@ use Rattle.unique.specs.Once.{start_lay}
 use Rattle.unique.specs.Once.{stops_refused, stops_numbers_of, stops_place_of, stops_recorded}
 use Rattle.unique.specs.Once.{machine_run_file}
 use Rattle.unique.specs.Once.{controller_control, controller_toltjebrim_control}
+use Rattle.unique.specs.Once.{input_read_full}
+use Rattle.unique.proofs.Known.{Took, same_count, first_and_rest}
 
 -- ---- the law, and its forms for several values
 
@@ -245,3 +249,21 @@ controller_control_once file input memory table room limit = run_once
 
 pub controller_toltjebrim_control_once : controller_toltjebrim_control
 controller_toltjebrim_control_once file input memory table room limit numbers = lent_once
+
+-- ---- input
+
+pub input_read_full_once : input_read_full
+input_read_full_once None buffer known n m left left' front front' p q =
+    let clash : ◌≡◌ {A = Bool} false true = known in
+    let none : ⊥ = cc in
+    absurd none
+input_read_full_once (Some xs) buffer known n m left left' front front' p q =
+    let one : Took xs n left front = record { fits = p.0; lost = p.2; ends = p.3 } in
+    let other : Took xs m left' front' = record { fits = q.0; lost = q.2; ends = q.3 } in
+    let count : n ≡ m = same_count xs (p.1 ∙ sym q.1) one other in
+    let first = first_and_rest xs one in
+    let again = first_and_rest xs other in (
+      count,
+      first.0 ∙ ap (λ (k : ℕ). take k xs) count ∙ sym again.0,
+      first.1 ∙ ap (λ (k : ℕ). Some (drop k xs)) count ∙ sym again.1,
+    )

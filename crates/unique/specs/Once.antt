@@ -1,8 +1,10 @@
 -- 01: "From two answers that satisfy it, equality is proved." A statement for each public function, by
 -- crate and name. What it promises is the function's contract: r is what is returned, a lent buffer's
 -- name is what it holds before, and the name with a mark what it holds afterwards.
-use Rattle.std.specs.Prelude.{ℕ, ◌≡◌, List, [], ◌∷◌, Bool, Option, Result, length, get_or, replicate}
+use Rattle.std.specs.Prelude.{ℕ, ◌≡◌, ◌≤◌, ◌<◌, List, [], ◌∷◌, Bool, Option, IsSome, Result, Ok, IfOk, OnErr, length, get_or, take, replicate}
 use Rattle.std.specs.Borrow.{Bor}
+use Rattle.std.specs.Io.KnownBytes.{Consumes, IsAtEnd}
+use Rattle.std_io.specs.declared.io.error.Error.{Error}
 use Rattle.numbers.specs.declared.Cursor.{Cursor}
 use Rattle.numbers.specs.declared.refusal.Cause.{Cause}
 use Rattle.numbers.specs.declared.refusal.Refusal.{Refusal}
@@ -46,6 +48,13 @@ use Rattle.controller.specs.Control.{control}
 -- two answers that satisfy a promise are equal
 abbrev pub Once : {A : Type 0} → (A → Type 0) → Type 0
 Once {A} Promise = (a b : A) → Promise a → Promise b → a ≡ b
+
+-- of what comes from outside, and is read into a buffer: two readings that satisfy a promise, and succeed, gave as many bytes
+-- and the same ones, and left the same
+abbrev pub Alike : {E : Type 0} → (Result ℕ E × Option (List ℕ) × List ℕ → Type 0) → Type 0
+Alike Promise =
+    (n m : ℕ) (left left' : Option (List ℕ)) (buffer buffer' : List ℕ) → Promise (Ok n, left, buffer) → Promise (Ok m, left', buffer')
+    → (n ≡ m) × (take n buffer ≡ take m buffer') × (left ≡ left')
 
 -- ---- numbers
 
@@ -270,3 +279,15 @@ controller_toltjebrim_control =
     (λ (memory', table', room', numbers').
     (numbers' ≡ five_of (control file input limit (lent_of memory table room)).run)
     × (lent_of memory' table' room' ≡ (control file input limit (lent_of memory table room)).lent))
+
+-- ---- input: a reader stands for the bytes that it has left, where they are known
+
+abbrev pub input_read_full : Type 0
+input_read_full =
+    (input : Option (List ℕ)) (buffer : List ℕ) → IsSome input
+    → Alike {E = Error}
+    (λ (r, input', buffer').
+    (IfOk r (λ n. n ≤ length buffer')) × (length buffer' ≡ length buffer)
+    × (IfOk r (λ n. Consumes input input' (take n buffer')))
+    × (IfOk r (λ n. n < length buffer' → IsAtEnd input'))
+    × (OnErr r ((n : ℕ) × (n ≤ length buffer') × Consumes input input' (take n buffer'))))

@@ -1,0 +1,2 @@
+-- What is read stands in front of the buffer (Front).
+mod Front
