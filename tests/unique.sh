@@ -10,8 +10,8 @@ stated=crates/unique/specs/Once.antt
 proved=crates/unique/proofs/Once.antt
 
 # A line for each public function of a source: name, the form that its statement has, parameters, and what it has to
-# promise. The answer comes first, as `result`, then each lent buffer's name with a mark for what it holds afterwards; clauses
-# are joined by a product.
+# promise. The answer comes first, as `result`, then each lent buffer's name with a mark for what it holds
+# afterwards; clauses are joined by a product.
 contracts() { # FILE
     awk '
         function between(text, left, right,   at) {

@@ -21,7 +21,8 @@ counted : (xs : List ℕ) {n : ℕ} {left : Option (List ℕ)} {buffer : List �
     → (n < length buffer → length xs ≡ n) × (n ≤ length xs)
 counted xs {left = None} took = absurd took.lost
 counted xs {n = n} {left = Some ys} {buffer = buffer} took =
-    let long : length xs ≡ n + length ys = ap length took.lost ∙ length-append (take n buffer) ys ∙ ap (λ k. k + length ys) (length-take-le n buffer took.fits) in
+    let long : length xs ≡ n + length ys =
+    ap length took.lost ∙ length-append (take n buffer) ys ∙ ap (λ k. k + length ys) (length-take-le n buffer took.fits) in
     (λ h. let none : length ys ≡ 0 = ap length (took.ends h) in omega arith, omega arith)
 
 pub same_count : (xs : List ℕ) {n m : ℕ} {left left' : Option (List ℕ)} {buffer buffer' : List ℕ} → length buffer ≡ length buffer'

@@ -1,5 +1,5 @@
--- Every contract says all that it says by equations, and two things that are equal to one value are
--- equal.
+-- Every contract but one says all that it says by equations, and two things that are equal to one value are
+-- equal. That one is `read_full` of `input`, whose answer comes from outside (Known).
 use Prim.Native.Nat.{ℕ}
 use lib.ListN.{take, drop}
 use mathlib.Core.Path.{◌≡◌, refl, sym, ◌∙◌, ap}

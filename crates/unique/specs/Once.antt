@@ -1,6 +1,7 @@
 -- 01: "From two answers that satisfy it, equality is proved." A statement for each public function, by
 -- crate and name. What it promises is the function's contract: r is what is returned, a lent buffer's
--- name is what it holds before, and the name with a mark what it holds afterwards.
+-- name is what it holds before, and the name with a mark what it holds afterwards. One function reads from outside,
+-- `read_full` of `input`: no contract can make two of its answers equal, and its statement has a form of its own (Alike).
 use Rattle.std.specs.Prelude.{ℕ, ◌≡◌, ◌≤◌, ◌<◌, List, [], ◌∷◌, Bool, Option, IsSome, Result, Ok, IfOk, OnErr, length, get_or, take, replicate}
 use Rattle.std.specs.Borrow.{Bor}
 use Rattle.std.specs.Io.KnownBytes.{Consumes, IsAtEnd}
@@ -49,8 +50,8 @@ use Rattle.controller.specs.Control.{control}
 abbrev pub Once : {A : Type 0} → (A → Type 0) → Type 0
 Once {A} Promise = (a b : A) → Promise a → Promise b → a ≡ b
 
--- of what comes from outside, and is read into a buffer: two readings that satisfy a promise, and succeed, gave as many bytes
--- and the same ones, and left the same
+-- of what is read into a buffer from outside: two readings that satisfy a promise, and succeed, gave as many bytes and the
+-- same ones, and left the same; what stands in the buffer behind them is open
 abbrev pub Alike : {E : Type 0} → (Result ℕ E × Option (List ℕ) × List ℕ → Type 0) → Type 0
 Alike Promise =
     (n m : ℕ) (left left' : Option (List ℕ)) (buffer buffer' : List ℕ) → Promise (Ok n, left, buffer) → Promise (Ok m, left', buffer')
